@@ -1,3 +1,4 @@
 pub mod DamageLemmas
 pub mod BaseLookups
+pub mod DoneLookups
 pub mod InForceLemmas

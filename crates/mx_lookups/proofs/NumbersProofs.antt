@@ -1,8 +1,10 @@
 pub mod ReadLemmas
 pub mod ChosenLemmas
 pub mod TableLemmas
+pub mod LaterTables
 pub mod LookupLemmas
 pub mod BookRows
+pub mod LaterRows
 pub mod SectorRows
 pub mod AnyLemmas
 pub mod ToldLemmas
@@ -10,4 +12,5 @@ pub mod Composed
 pub mod WorkedNumbers
 pub mod WorkedTold
 pub mod WorkedToldDefects
+pub mod WorkedLater
 pub mod WorkedUntold

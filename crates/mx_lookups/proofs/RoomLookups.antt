@@ -4,6 +4,7 @@ use Rattle.std.proofs.lemmas.List.{length-map}
 use Rattle.std.proofs.lemmas.List.Sorted.{length_permutation}
 use Rattle.sqlite.specs.State.{State, IsUnchanged}
 use Rattle.sqlite.specs.Tree.{Trees}
+use Rattle.mx_base.specs.declared.point.Point.{Point}
 use Rattle.mx_book.specs.commands.Act.{Entry}
 use Rattle.mx_book.specs.Book.{IsBook}
 use Rattle.mx_base.specs.rows.Rising.{IsRising}
@@ -21,10 +22,10 @@ use Rattle.mx_layout.specs.kept.Kept.{Kept}
 use Rattle.mx_table_rows.specs.chosen.Counts.{CountsRows}
 use Rattle.mx_book_tables.specs.stands.Stands.{HasRowsAt}
 use Rattle.mx_lookups.specs.numbers.Damage.{IsDamaged, IsUncounted}
-use Rattle.mx_lookups.specs.numbers.Reads.{HasTablesOfRows, Reads, rows_point}
+use Rattle.mx_lookups.specs.numbers.Reads.{HasTablesOfRowsAt, Reads, ReadsAt}
 use Rattle.mx_lookups.proofs.NumbersProofs.LookupLemmas.{damage_of, stop_of}
 use Rattle.mx_lookups.proofs.NumbersProofs.ReadLemmas.{map_ok, map_read}
-use Rattle.mx_lookups.proofs.NumbersProofs.TableLemmas.{IsTable, aircraft, components}
+use Rattle.mx_lookups.proofs.NumbersProofs.TableLemmas.{IsTableAt, aircraft, components}
 
 -- a list that rises has no more than the numbers from the one bound to the other
 rising_few : {X : Type 0} (key : X → ℕ) (low high : ℕ) (xs : List X) → IsRising key low xs high → low + length xs ≤ high
@@ -38,15 +39,15 @@ uncounted name other trees r past mine is many =
     let same : name ≡ other = cc in
     subst (λ n. IsDamaged n trees) same (past many)
 
-module _ {X : Type 0} (k : Kept X) (rows : List Entry → List X) (it : IsTable k rows) (few : (book : List Entry) → IsBook book → length (rows book) < 2 ^ 32) (past : (trees : Trees) → IsUncounted k.name trees → IsDamaged k.name trees) where
+module _ {at : Point} {X : Type 0} (k : Kept X) (rows : List Entry → List X) (it : IsTableAt at k rows) (few : (book : List Entry) → IsBook book → length (rows book) < 2 ^ 32) (past : (trees : Trees) → IsUncounted k.name trees → IsDamaged k.name trees) where
   -- the table has as many rows as the book gives it
-  as_many : (trees : Trees) (book : List Entry) → HasRowsAt rows_point trees book → length (rows_in (table_named k.name) trees) ≡ length (rows book)
+  as_many : (trees : Trees) (book : List Entry) → HasRowsAt at trees book → length (rows_in (table_named k.name) trees) ≡ length (rows book)
   as_many trees book has = length_permutation _ _ (it.keeps trees book has).given ∙ length-map (rows book) k.as_cells
 
   -- what was counted is how many rows the book gives
-  pub rows_counted : (old new : State) (result : Result ℕ TableFault) → CountsRows k old new result → Reads (λ book n. n ≡ length (rows book)) old new result
+  pub rows_counted : (old new : State) (result : Result ℕ TableFault) → CountsRows k old new result → ReadsAt at (λ book n. n ≡ length (rows book)) old new result
   rows_counted old new result r =
-      let has_it : HasTablesOfRows old.now.schema → k.IsIn old.now.schema = λ has. it.is_in _ has in
+      let has_it : HasTablesOfRowsAt at old.now.schema → k.IsIn old.now.schema = λ has. it.is_in _ has in
       record {
         read = λ clean book stands. map_ok (λ n. n ≡ length (rows_in (table_named k.name) old.now.trees)) (λ n. n ≡ length (rows book)) result (λ n is. is ∙ as_many old.now.trees book stands.rows) (r.rows clean (has_it stands.schema));
         cause = stop_of k.name result r.cause;

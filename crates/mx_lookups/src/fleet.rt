@@ -6,7 +6,7 @@ ghost use Rattle.mx_book.specs.Defect.{defects, is_rectified};
 ghost use Rattle.mx_book.specs.Register.{register};
 ghost use Rattle.mx_row_rules.specs.found.Defects.{deferred_said, is_rectified_at};
 ghost use Rattle.mx_lookups.specs.numbers.Given.{AllOpenDefects, AreRectified, DefectOfRow, Serials, Tails};
-ghost use Rattle.mx_lookups.specs.numbers.LookUp.{IsLookUp};
+ghost use Rattle.mx_lookups.specs.numbers.LookUp.{IsLookUp, LooksUp};
 ghost use Rattle.mx_lookups.specs.numbers.Told.{AllOpenDamage, DefectOfRowDamage, DefectsButDamage, SerialsDamage, TailsDamage};
 
 use crate::lists::doc_of_number;
@@ -54,12 +54,12 @@ pub fn serials<S: Alter>(
 }
 
 // The defect that a deferral says, or `None` where its entry or its aircraft is not there.
-fn defect_of_row<S: Alter>(
+pub(crate) fn defect_of_row<S: Alter>(
     alloc: Global,
     tx: &mut Transaction<'_, S>,
     row: &DeferralRow,
 ) -> Result<Option<Defect>, TableFault>
-    ensures looks_up { IsLookUp S.Store
+    ensures looks_up { LooksUp S.Store
         (λ book said. said ≡ deferred_said book row.now)
         (DefectOfRow row.now)
         (DefectOfRowDamage row.now)

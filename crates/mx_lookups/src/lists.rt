@@ -11,7 +11,7 @@ ghost use Rattle.mx_row_rules.specs.found.Defects.{is_rectified_at, open_said};
 ghost use Rattle.mx_row_rules.specs.found.Names.{doc_at};
 ghost use Rattle.mx_row_rules.specs.found.Spans.{is_open_at, place_said};
 ghost use Rattle.mx_lookups.specs.numbers.Given.{DefectsAt, DocIfOpen, DocOfNumber, FittedTo, OpenDefects, PlacesAt, SerialOfNumber};
-ghost use Rattle.mx_lookups.specs.numbers.LookUp.{IsLookUp};
+ghost use Rattle.mx_lookups.specs.numbers.LookUp.{IsLookUp, LooksUp};
 ghost use Rattle.mx_lookups.specs.numbers.Told.{DefectsDamage, DocDamage, DocIfOpenDamage, FittedDamage, OpenDamage, PlacesDamage, SerialDamage};
 
 use crate::numbers::items::aircraft_number;
@@ -100,7 +100,7 @@ pub(crate) fn doc_of_number<S: Alter>(
     tx: &mut Transaction<'_, S>,
     number: u32,
 ) -> Result<Option<Doc>, TableFault>
-    ensures looks_up { IsLookUp S.Store
+    ensures looks_up { LooksUp S.Store
         (λ book doc. doc ≡ doc_at book number)
         (DocOfNumber number)
         (DocDamage number)
@@ -116,7 +116,7 @@ pub(crate) fn doc_if_open<S: Alter>(
     tx: &mut Transaction<'_, S>,
     defect: u32,
 ) -> Result<Option<Option<Doc>>, TableFault>
-    ensures looks_up { IsLookUp S.Store
+    ensures looks_up { LooksUp S.Store
         (λ book found. found ≡ (if is_rectified_at book defect then None else Some (doc_at book
         defect)))
         (DocIfOpen defect)

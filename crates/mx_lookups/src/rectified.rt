@@ -6,7 +6,7 @@ ghost use Rattle.mx_layout.specs.kept.Cells.{kept_crs_line};
 ghost use Rattle.mx_table_rows.specs.chosen.Choices.{is_any};
 ghost use Rattle.mx_row_rules.specs.found.Defects.{is_rectified_at, rectifies};
 ghost use Rattle.mx_lookups.specs.numbers.Given.{IsRectifiedAt};
-ghost use Rattle.mx_lookups.specs.numbers.LookUp.{IsLookUp};
+ghost use Rattle.mx_lookups.specs.numbers.LookUp.{LooksUp};
 ghost use Rattle.mx_lookups.specs.numbers.Told.{Unread};
 
 use mx_base::rows::ReleaseLineRow;
@@ -40,7 +40,7 @@ pub(crate) fn rectified_defects<S: Alter>(
     alloc: Global,
     tx: &mut Transaction<'_, S>,
 ) -> Result<HashSet<u32>, TableFault>
-    ensures looks_up { IsLookUp S.Store
+    ensures looks_up { LooksUp S.Store
         (λ book defects. (n : ℕ) → contains nat_eq defects n ≡ is_rectified_at book n)
         (λ trees defects. (n : ℕ) → IsRectifiedAt n trees (contains nat_eq defects n))
         (Unread kept_crs_line is_any)

@@ -28,8 +28,6 @@ use Rattle.mx_layout.proofs.KeptProofs.MovedLawful.{base2_lawful}
 use Rattle.mx_table_rows.specs.chosen.Calls.{ReadsFirst}
 use Rattle.mx_table_rows.specs.chosen.Choices.{AreFirst}
 use Rattle.mx_book_tables.specs.stands.Stands.{HasRowsAt}
-use Rattle.mx_registers.specs.declared.points.points.TheConstants.{NEWEST_LAYOUT}
-use Rattle.mx_book_tables.proofs.StandsProofs.PointLemmas.{file_is_up_to_3, newest_is_layout}
 use Rattle.mx_book_tables.proofs.StandsProofs.FamilyLemmas.{facts}
 use Rattle.mx_book_tables.proofs.StandsProofs.RowLemmas.{rows_once}
 use Rattle.mx_lookups.specs.numbers.AnyRows.{Gives, ReadsAny}
@@ -38,7 +36,7 @@ use Rattle.mx_lookups.specs.numbers.Reads.{Reads, rows_point}
 use Rattle.mx_lookups.proofs.NumbersProofs.AnyLemmas.{empty_is, given_in}
 use Rattle.mx_lookups.proofs.NumbersProofs.ChosenLemmas.{no_other}
 use Rattle.mx_lookups.proofs.NumbersProofs.LookupLemmas.{chosen_read, number_is, text_is}
-use Rattle.mx_lookups.proofs.NumbersProofs.TableLemmas.{IsInEach, tables_at}
+use Rattle.mx_lookups.proofs.NumbersProofs.TableLemmas.{IsInEach, in_each, now, whole_at}
 
 -- ── at most one row ──
 
@@ -73,10 +71,10 @@ same_order xs ys (inr one) h = one_permutation one.0 ys (subst (λ l. IsPermutat
 -- ── the table ──
 
 bases_whole : (book : List Entry) → rows_at bases_2 rows_point book ≡ base_rows book
-bases_whole book = (facts table.Base2).whole NEWEST_LAYOUT newest_is_layout refl book
+bases_whole = whole_at table.Base2 kept_base2 bases_2 (facts table.Base2) (λ row is. is) now refl
 
 pub bases_in : IsInEach kept_base2
-bases_in schema has = (facts table.Base2).is_in rows_point (file_is_up_to_3 rows_point (inr refl)) refl schema (tables_at schema has)
+bases_in = in_each table.Base2 kept_base2 bases_2 (facts table.Base2) (λ row is. is) now refl
 
 bases_fit : (trees : Trees) (book : List Entry) → HasRowsAt rows_point trees book → All kept_base2.Fits (base_rows book)
 bases_fit trees book has = subst (All kept_base2.Fits) (bases_whole book) (has.fit table.Base2 refl)

@@ -14,6 +14,7 @@ use Rattle.sqlite.specs.Effect.{Database}
 use Rattle.sqlite.specs.Order.{Row, column}
 use Rattle.sqlite.specs.State.{State, HasCleanDisk}
 use Rattle.sqlite.specs.Tree.{Trees}
+use Rattle.mx_base.specs.declared.point.Point.{Point}
 use Rattle.mx_book.specs.commands.Act.{Entry}
 use Rattle.mx_layout.specs.TableName.{TableName}
 use Rattle.mx_layout.specs.declared.fault.TableFault.{TableFault}
@@ -24,47 +25,47 @@ use Rattle.mx_layout.specs.kept.Kept.{Kept}
 use Rattle.mx_table_rows.specs.chosen.Choices.{has_value, is_any}
 use Rattle.mx_table_rows.specs.chosen.Calls.{ReadsFirst}
 use Rattle.mx_lookups.specs.numbers.Damage.{HasRow, IsKept, IsUnmet}
-use Rattle.mx_lookups.specs.numbers.AnyRows.{AreChosen, ReadsAny, Gives, GivesFirst, GivesBy}
-use Rattle.mx_lookups.specs.numbers.Reads.{HasTablesOfRows, Reads}
-use Rattle.mx_lookups.proofs.NumbersProofs.TableLemmas.{IsInEach, IsTable}
+use Rattle.mx_lookups.specs.numbers.AnyRows.{AreChosen, ReadsAnyAt, Gives, GivesFirst, GivesBy}
+use Rattle.mx_lookups.specs.numbers.Reads.{HasTablesOfRowsAt, ReadsAt}
+use Rattle.mx_lookups.proofs.NumbersProofs.TableLemmas.{IsInEachAt, IsTableAt}
 
 -- ── what is found ──
 
 -- what the chosen rows of a table give that stands at the point
-pub given_in : {X V W : Type 0} {k : Kept X} (is_in : IsInEach k) {most : Option ℕ} {order : Row → Row → Ordering} {chosen : Row → Bool} {items : V → List X} {old new : State} {rows : V} (of : List X → W) {w : W}
-    → w ≡ of (items rows) → ReadsFirst k most order chosen items old new (Ok rows) → ReadsAny (GivesFirst k most order chosen of) old new (Ok w)
+pub given_in : {at : Point} {X V W : Type 0} {k : Kept X} (is_in : IsInEachAt at k) {most : Option ℕ} {order : Row → Row → Ordering} {chosen : Row → Bool} {items : V → List X} {old new : State} {rows : V} (of : List X → W) {w : W}
+    → w ≡ of (items rows) → ReadsFirst k most order chosen items old new (Ok rows) → ReadsAnyAt at (GivesFirst k most order chosen of) old new (Ok w)
 given_in {k} is_in {most} {order} {chosen} {items} {old} {new} {rows} of is r = record { found = λ clean has. (items rows, record { are = r.rows clean (is_in _ has); fit = r.fits }, is) }
 
 -- so of a table of which it is known what it keeps
-pub gives : {X V W : Type 0} {k : Kept X} {book_rows : List Entry → List X} (it : IsTable k book_rows) {most : Option ℕ} {order : Row → Row → Ordering} {chosen : Row → Bool} {items : V → List X} {old new : State} {rows : V} (of : List X → W) {w : W}
-    → w ≡ of (items rows) → ReadsFirst k most order chosen items old new (Ok rows) → ReadsAny (GivesFirst k most order chosen of) old new (Ok w)
+pub gives : {at : Point} {X V W : Type 0} {k : Kept X} {book_rows : List Entry → List X} (it : IsTableAt at k book_rows) {most : Option ℕ} {order : Row → Row → Ordering} {chosen : Row → Bool} {items : V → List X} {old new : State} {rows : V} (of : List X → W) {w : W}
+    → w ≡ of (items rows) → ReadsFirst k most order chosen items old new (Ok rows) → ReadsAnyAt at (GivesFirst k most order chosen of) old new (Ok w)
 gives it = given_in it.is_in
 
 -- where nothing is answered, nothing is said of the rows
-pub silent : {V : Type 0} (Is : Trees → V → Type 0) (old new : State) (e : TableFault) (result : Result V TableFault) → IsErrAnd result (λ f. f ≡ e) → ReadsAny Is old new result
+pub silent : {at : Point} {V : Type 0} (Is : Trees → V → Type 0) (old new : State) (e : TableFault) (result : Result V TableFault) → IsErrAnd result (λ f. f ≡ e) → ReadsAnyAt at Is old new result
 silent Is old new e (Ok v) is = absurd is
 silent Is old new e (Err f) is = record { found = λ clean has. tt }
 
 -- what follows from what is answered
-pub any_so : {V W : Type 0} (P : Trees → V → Type 0) (Q : Trees → W → Type 0) (old new : State) (v : V) (w : W) → ((trees : Trees) → P trees v → Q trees w) → ReadsAny P old new (Ok v) → ReadsAny Q old new (Ok w)
+pub any_so : {at : Point} {V W : Type 0} (P : Trees → V → Type 0) (Q : Trees → W → Type 0) (old new : State) (v : V) (w : W) → ((trees : Trees) → P trees v → Q trees w) → ReadsAnyAt at P old new (Ok v) → ReadsAnyAt at Q old new (Ok w)
 any_so P Q old new v w so r = record { found = λ clean has. so old.now.trees (r.found clean has) }
 
 -- behind a first look-up, over the rows that there were before it
-pub any_later : {V W : Type 0} (P : List Entry → V → Type 0) (Q : Trees → W → Type 0) (a b c : State) (v : V) (w : W) → Reads P a b (Ok v) → IsWithin b c → ReadsAny Q b c (Ok w) → ReadsAny Q a c (Ok w)
-any_later P Q a b c v w one within two = record {
+pub any_later : {at : Point} {V W : Type 0} (P : List Entry → V → Type 0) (Q : Trees → W → Type 0) (a b c : State) (v : V) (w : W) → ReadsAt at P a b (Ok v) → IsWithin b c → ReadsAnyAt at Q b c (Ok w) → ReadsAnyAt at Q a c (Ok w)
+any_later {at} P Q a b c v w one within two = record {
   found = λ clean has.
       let early : HasCleanDisk b = omega (arith, within.survives.clean) in
       let same : b.now ≡ a.now = one.unchanged early has in
-      subst (λ (d : Database). Q d.trees w) same (two.found clean (subst (λ (d : Database). HasTablesOfRows d.schema) (sym same) has));
+      subst (λ (d : Database). Q d.trees w) same (two.found clean (subst (λ (d : Database). HasTablesOfRowsAt at d.schema) (sym same) has));
 }
 
 -- what was found, before what was looked up by it
-pub found_some : {A : Type 0} (First : Trees → Option A → Type 0) {a b c : State} {found : Option A} {n : A} → found ≡ Some n → ReadsAny First a b (Ok found) → IsWithin b c → HasCleanDisk c → HasTablesOfRows a.now.schema → First a.now.trees (Some n)
+pub found_some : {at : Point} {A : Type 0} (First : Trees → Option A → Type 0) {a b c : State} {found : Option A} {n : A} → found ≡ Some n → ReadsAnyAt at First a b (Ok found) → IsWithin b c → HasCleanDisk c → HasTablesOfRowsAt at a.now.schema → First a.now.trees (Some n)
 found_some First {a} is first within clean has = subst (First a.now.trees) is (first.found (omega (arith, within.survives.clean)) has)
 
 -- what is looked up by what was found
-pub by_number : {A V : Type 0} (P : List Entry → Option A → Type 0) (First : Trees → Option A → Type 0) (none : V) (Then : A → Trees → V → Type 0) (a b c : State) (found : Option A) (n : A) (w : V) → found ≡ Some n
-    → Reads P a b (Ok found) → ReadsAny First a b (Ok found) → IsWithin b c → ReadsAny (Then n) b c (Ok w) → ReadsAny (GivesBy First none Then) a c (Ok w)
+pub by_number : {at : Point} {A V : Type 0} (P : List Entry → Option A → Type 0) (First : Trees → Option A → Type 0) (none : V) (Then : A → Trees → V → Type 0) (a b c : State) (found : Option A) (n : A) (w : V) → found ≡ Some n
+    → ReadsAt at P a b (Ok found) → ReadsAnyAt at First a b (Ok found) → IsWithin b c → ReadsAnyAt at (Then n) b c (Ok w) → ReadsAnyAt at (GivesBy First none Then) a c (Ok w)
 by_number P First none Then a b c found n w is one first within later = record {
   found = λ clean has. record {
     found = Some n;
@@ -74,18 +75,18 @@ by_number P First none Then a b c found n w is one first within later = record {
 }
 
 -- nothing was found
-pub by_none : {A V : Type 0} (First : Trees → Option A → Type 0) (none : V) (Then : A → Trees → V → Type 0) (a b : State) (found : Option A) → found ≡ None → ReadsAny First a b (Ok found) → ReadsAny (GivesBy First none Then) a b (Ok none)
+pub by_none : {at : Point} {A V : Type 0} (First : Trees → Option A → Type 0) (none : V) (Then : A → Trees → V → Type 0) (a b : State) (found : Option A) → found ≡ None → ReadsAnyAt at First a b (Ok found) → ReadsAnyAt at (GivesBy First none Then) a b (Ok none)
 by_none First none Then a b found is first = record { found = λ clean has. record { found = None; first = subst (First a.now.trees) is (first.found clean has); then = refl } }
 
 -- what is looked up by what was found, where that is handed on, or is not answered
-pub by_result : {A V W : Type 0} (P : List Entry → Option A → Type 0) (First : Trees → Option A → Type 0) (none : V) (Then : A → Trees → V → Type 0) (of : W → V) (a b c : State) (found : Option A) (n : A) (result : Result W TableFault) → found ≡ Some n
-    → Reads P a b (Ok found) → ReadsAny First a b (Ok found) → IsWithin b c → ReadsAny (λ trees w. Then n trees (of w)) b c result → ReadsAny (λ trees w. GivesBy First none Then trees (of w)) a c result
+pub by_result : {at : Point} {A V W : Type 0} (P : List Entry → Option A → Type 0) (First : Trees → Option A → Type 0) (none : V) (Then : A → Trees → V → Type 0) (of : W → V) (a b c : State) (found : Option A) (n : A) (result : Result W TableFault) → found ≡ Some n
+    → ReadsAt at P a b (Ok found) → ReadsAnyAt at First a b (Ok found) → IsWithin b c → ReadsAnyAt at (λ trees w. Then n trees (of w)) b c result → ReadsAnyAt at (λ trees w. GivesBy First none Then trees (of w)) a c result
 by_result P First none Then of a b c found n (Ok w) is one first within later = record { found = (by_number P First none Then a b c found n (of w) is one first within (record { found = later.found })).found }
 by_result P First none Then of a b c found n (Err e) is one first within later = record { found = λ clean has. tt }
 
 -- what was found gives the answer by itself
-pub by_itself : {A U V : Type 0} (First : Trees → Option A → Type 0) (none : V) (gives : A → V) (of : U → Option A) (a b : State) (u : U) (found : A) (w : V) → of u ≡ Some found → w ≡ gives found → ReadsAny (λ trees o. First trees (of o)) a b (Ok u)
-    → ReadsAny (GivesBy First none (λ it trees answer. answer ≡ gives it)) a b (Ok w)
+pub by_itself : {at : Point} {A U V : Type 0} (First : Trees → Option A → Type 0) (none : V) (gives : A → V) (of : U → Option A) (a b : State) (u : U) (found : A) (w : V) → of u ≡ Some found → w ≡ gives found → ReadsAnyAt at (λ trees o. First trees (of o)) a b (Ok u)
+    → ReadsAnyAt at (GivesBy First none (λ it trees answer. answer ≡ gives it)) a b (Ok w)
 by_itself First none gives of a b u found w is made first = record { found = λ clean has. record { found = Some found; first = subst (First a.now.trees) is (first.found clean has); then = made } }
 
 -- ── what is damaged ──

@@ -10,6 +10,7 @@ use Rattle.sqlite.specs.Order.{column}
 use Rattle.sqlite.specs.State.{State}
 use Rattle.sqlite_schema.specs.Rules.{equal}
 use Rattle.sqlite_sql.specs.Ops.{binary}
+use Rattle.mx_base.specs.declared.point.Point.{Point}
 use Rattle.mx_book.specs.commands.Act.{Entry}
 use Rattle.mx_book.specs.commands.Same.{same_text}
 use Rattle.mx_registers.specs.Registers.{entry_rows, aircraft_rows, place_rows, component_rows, programme_rows, task_rows, opening_rows, release_rows, release_line_rows, deferral_rows, extension_rows}
@@ -23,19 +24,19 @@ use Rattle.mx_table_rows.specs.chosen.Choices.{has_value, is_any, is_open}
 use Rattle.mx_table_rows.specs.chosen.Calls.{ReadsBy, ReadsFirst}
 use Rattle.mx_row_rules.specs.found.Defects.{rectifies}
 use Rattle.mx_row_rules.specs.found.Spans.{is_open_at, is_open_of, is_removed_by}
-use Rattle.mx_lookups.specs.numbers.Reads.{Reads}
+use Rattle.mx_lookups.specs.numbers.Reads.{IsRowsPoint, Reads, ReadsAt}
 use Rattle.mx_lookups.proofs.NumbersProofs.LookupLemmas.{all_read, rows_read, text_is, number_is, is_open_at-cells, is_open_of-cells}
-use Rattle.mx_lookups.proofs.NumbersProofs.TableLemmas.{IsTable, entries, aircraft, places, components, programmes, tasks, openings, releases, release_lines, deferrals, extensions, spans, totals}
+use Rattle.mx_lookups.proofs.NumbersProofs.TableLemmas.{IsTableAt, entries_at, aircraft, aircraft_at, places, components, components_at, programmes, tasks, openings, releases, release_lines, release_lines_at, deferrals, extensions, spans, totals, now}
 
 -- ── by a number and by a text, whatever the table ──
 
-module _ {X A : Type 0} (k : Kept X) (rows : List Entry → List X) (it : IsTable k rows) (old new : State) (result : Result (Vec X A) TableFault) where
-  by_number : (at : ℕ) (of : X → ℕ) → ((x : X) → column (k.as_cells x) at ≡ Int (pos (of x))) → (n : ℕ) → ReadsBy k at (Int (pos n)) old new result
-      → Reads (λ book found. found.items ≡ filter (λ x. nat_eq (of x) n) (rows book)) old new result
+module _ {at_point : Point} {X A : Type 0} (k : Kept X) (rows : List Entry → List X) (it : IsTableAt at_point k rows) (old new : State) (result : Result (Vec X A) TableFault) where
+  pub by_number : (at : ℕ) (of : X → ℕ) → ((x : X) → column (k.as_cells x) at ≡ Int (pos (of x))) → (n : ℕ) → ReadsBy k at (Int (pos n)) old new result
+      → ReadsAt at_point (λ book found. found.items ≡ filter (λ x. nat_eq (of x) n) (rows book)) old new result
   by_number at of is n = rows_read k rows it (has_value at (Int (pos n))) (λ x. nat_eq (of x) n) (λ x. ap (λ cell. equal Binary cell (Int (pos n))) (is x) ∙ number_is (of x) n) (λ found. found.items) old new result
 
-  by_text : (at : ℕ) (of : X → List ℕ) → ((x : X) → column (k.as_cells x) at ≡ Text (of x)) → (text : List ℕ) → ReadsBy k at (Text text) old new result
-      → Reads (λ book found. found.items ≡ filter (λ x. same_text (of x) text) (rows book)) old new result
+  pub by_text : (at : ℕ) (of : X → List ℕ) → ((x : X) → column (k.as_cells x) at ≡ Text (of x)) → (text : List ℕ) → ReadsBy k at (Text text) old new result
+      → ReadsAt at_point (λ book found. found.items ≡ filter (λ x. same_text (of x) text) (rows book)) old new result
   by_text at of is text = rows_read k rows it (has_value at (Text text)) (λ x. same_text (of x) text) (λ x. ap (λ cell. equal Binary cell (Text text)) (is x) ∙ text_is (of x) text) (λ found. found.items) old new result
 
 -- ── each raw look-up ──
@@ -47,23 +48,38 @@ some_number None n = refl
 some_number (Some m) n = number_is m n
 
 module _ {A : Type 0} {old new : State} where
+  pub entries_of_doc_at : {at : Point} {result : Result (Vec _ A) TableFault} → IsRowsPoint at → (doc : List ℕ) → ReadsBy kept_entry 1 (Text doc) old new result → ReadsAt at (λ book rows. rows.items ≡ filter (λ row. same_text row.doc doc) (entry_rows book)) old new result
+  entries_of_doc_at {result = result} is = by_text kept_entry entry_rows (entries_at is) old new result 1 (λ row. row.doc) (λ row. refl)
+
   pub entries_of_doc : {result : Result (Vec _ A) TableFault} (doc : List ℕ) → ReadsBy kept_entry 1 (Text doc) old new result → Reads (λ book rows. rows.items ≡ filter (λ row. same_text row.doc doc) (entry_rows book)) old new result
-  entries_of_doc {result} = by_text kept_entry entry_rows entries old new result 1 (λ row. row.doc) (λ row. refl)
+  entries_of_doc = entries_of_doc_at now
+
+  pub entries_of_number_at : {at : Point} {result : Result (Vec _ A) TableFault} → IsRowsPoint at → (n : ℕ) → ReadsBy kept_entry 0 (Int (pos n)) old new result → ReadsAt at (λ book rows. rows.items ≡ filter (λ row. nat_eq row.seq n) (entry_rows book)) old new result
+  entries_of_number_at {result = result} is = by_number kept_entry entry_rows (entries_at is) old new result 0 (λ row. row.seq) (λ row. refl)
 
   pub entries_of_number : {result : Result (Vec _ A) TableFault} (n : ℕ) → ReadsBy kept_entry 0 (Int (pos n)) old new result → Reads (λ book rows. rows.items ≡ filter (λ row. nat_eq row.seq n) (entry_rows book)) old new result
-  entries_of_number {result} = by_number kept_entry entry_rows entries old new result 0 (λ row. row.seq) (λ row. refl)
+  entries_of_number = entries_of_number_at now
+
+  pub aircraft_of_tail_at : {at : Point} {result : Result (Vec _ A) TableFault} → IsRowsPoint at → (tail : List ℕ) → ReadsBy kept_aircraft 1 (Text tail) old new result → ReadsAt at (λ book rows. rows.items ≡ filter (λ row. same_text row.tail tail) (aircraft_rows book)) old new result
+  aircraft_of_tail_at {result = result} is = by_text kept_aircraft aircraft_rows (aircraft_at is) old new result 1 (λ row. row.tail) (λ row. refl)
 
   pub aircraft_of_tail : {result : Result (Vec _ A) TableFault} (tail : List ℕ) → ReadsBy kept_aircraft 1 (Text tail) old new result → Reads (λ book rows. rows.items ≡ filter (λ row. same_text row.tail tail) (aircraft_rows book)) old new result
-  aircraft_of_tail {result} = by_text kept_aircraft aircraft_rows aircraft old new result 1 (λ row. row.tail) (λ row. refl)
+  aircraft_of_tail = aircraft_of_tail_at now
+
+  pub aircraft_of_number_at : {at : Point} {result : Result (Vec _ A) TableFault} → IsRowsPoint at → (n : ℕ) → ReadsBy kept_aircraft 0 (Int (pos n)) old new result → ReadsAt at (λ book rows. rows.items ≡ filter (λ row. nat_eq row.seq n) (aircraft_rows book)) old new result
+  aircraft_of_number_at {result = result} is = by_number kept_aircraft aircraft_rows (aircraft_at is) old new result 0 (λ row. row.seq) (λ row. refl)
 
   pub aircraft_of_number : {result : Result (Vec _ A) TableFault} (n : ℕ) → ReadsBy kept_aircraft 0 (Int (pos n)) old new result → Reads (λ book rows. rows.items ≡ filter (λ row. nat_eq row.seq n) (aircraft_rows book)) old new result
-  aircraft_of_number {result} = by_number kept_aircraft aircraft_rows aircraft old new result 0 (λ row. row.seq) (λ row. refl)
+  aircraft_of_number = aircraft_of_number_at now
 
   pub places_of : {result : Result (Vec _ A) TableFault} (n : ℕ) → ReadsBy kept_place 0 (Int (pos n)) old new result → Reads (λ book rows. rows.items ≡ filter (λ row. nat_eq row.seq n) (place_rows book)) old new result
   places_of {result} = by_number kept_place place_rows places old new result 0 (λ row. row.seq) (λ row. refl)
 
+  pub components_of_serial_at : {at : Point} {result : Result (Vec _ A) TableFault} → IsRowsPoint at → (serial : List ℕ) → ReadsBy kept_component 1 (Text serial) old new result → ReadsAt at (λ book rows. rows.items ≡ filter (λ row. same_text row.serial serial) (component_rows book)) old new result
+  components_of_serial_at {result = result} is = by_text kept_component component_rows (components_at is) old new result 1 (λ row. row.serial) (λ row. refl)
+
   pub components_of_serial : {result : Result (Vec _ A) TableFault} (serial : List ℕ) → ReadsBy kept_component 1 (Text serial) old new result → Reads (λ book rows. rows.items ≡ filter (λ row. same_text row.serial serial) (component_rows book)) old new result
-  components_of_serial {result} = by_text kept_component component_rows components old new result 1 (λ row. row.serial) (λ row. refl)
+  components_of_serial = components_of_serial_at now
 
   pub components_of_number : {result : Result (Vec _ A) TableFault} (n : ℕ) → ReadsBy kept_component 0 (Int (pos n)) old new result → Reads (λ book rows. rows.items ≡ filter (λ row. nat_eq row.seq n) (component_rows book)) old new result
   components_of_number {result} = by_number kept_component component_rows components old new result 0 (λ row. row.seq) (λ row. refl)
@@ -86,11 +102,17 @@ module _ {A : Type 0} {old new : State} where
   pub lines_of : {result : Result (Vec _ A) TableFault} (n : ℕ) → ReadsBy kept_crs_line 0 (Int (pos n)) old new result → Reads (λ book rows. rows.items ≡ filter (λ row. nat_eq row.seq n) (release_line_rows book)) old new result
   lines_of {result} = by_number kept_crs_line release_line_rows release_lines old new result 0 (λ row. row.seq) (λ row. refl)
 
+  pub lines_of_defect_at : {at : Point} {result : Result (Vec _ A) TableFault} → IsRowsPoint at → (n : ℕ) → ReadsBy kept_crs_line 4 (Int (pos n)) old new result → ReadsAt at (λ book rows. rows.items ≡ filter (rectifies n) (release_line_rows book)) old new result
+  lines_of_defect_at {result = result} is n = rows_read kept_crs_line release_line_rows (release_lines_at is) (has_value 4 (Int (pos n))) (rectifies n) (λ row. some_number row.defect n) (λ rows. rows.items) old new result
+
   pub lines_of_defect : {result : Result (Vec _ A) TableFault} (n : ℕ) → ReadsBy kept_crs_line 4 (Int (pos n)) old new result → Reads (λ book rows. rows.items ≡ filter (rectifies n) (release_line_rows book)) old new result
-  lines_of_defect {result} n = rows_read kept_crs_line release_line_rows release_lines (has_value 4 (Int (pos n))) (rectifies n) (λ row. some_number row.defect n) (λ rows. rows.items) old new result
+  lines_of_defect = lines_of_defect_at now
+
+  pub lines_all_at : {at : Point} {result : Result (Vec _ A) TableFault} → IsRowsPoint at → ReadsFirst kept_crs_line None kept_crs_line.order is_any (λ rows. rows.items) old new result → ReadsAt at (λ book rows. rows.items ≡ release_line_rows book) old new result
+  lines_all_at {result = result} is = all_read kept_crs_line release_line_rows (release_lines_at is) (λ rows. rows.items) old new result
 
   pub lines_all : {result : Result (Vec _ A) TableFault} → ReadsFirst kept_crs_line None kept_crs_line.order is_any (λ rows. rows.items) old new result → Reads (λ book rows. rows.items ≡ release_line_rows book) old new result
-  lines_all {result} = all_read kept_crs_line release_line_rows release_lines (λ rows. rows.items) old new result
+  lines_all = lines_all_at now
 
   pub deferrals_of_number : {result : Result (Vec _ A) TableFault} (n : ℕ) → ReadsBy kept_defect 0 (Int (pos n)) old new result → Reads (λ book rows. rows.items ≡ filter (λ row. nat_eq row.seq n) (deferral_rows book)) old new result
   deferrals_of_number {result} = by_number kept_defect deferral_rows deferrals old new result 0 (λ row. row.seq) (λ row. refl)

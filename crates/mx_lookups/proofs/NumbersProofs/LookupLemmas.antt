@@ -11,6 +11,7 @@ use Rattle.sqlite.specs.Collation.TheVariants.{Binary}
 use Rattle.sqlite_rules.specs.Lists.{Has}
 use Rattle.sqlite_rules.proofs.ListLemmas.{has_contained, contains_had}
 use Rattle.sqlite_schema.specs.Rules.{equal}
+use Rattle.mx_base.specs.declared.point.Point.{Point}
 use Rattle.mx_book.specs.commands.Act.{Entry}
 use Rattle.mx_book.specs.commands.Same.{same_text}
 use Rattle.mx_base.specs.declared.rows.rows.EntryRow.{EntryRow}
@@ -36,10 +37,10 @@ use Rattle.mx_row_rules.specs.found.Names.{last_number}
 use Rattle.mx_row_rules.specs.found.Spans.{is_open_at, is_open_of}
 use Rattle.mx_row_rules.proofs.FoundProofs.FoundLemmas.{entries_counted, entries_numbered}
 use Rattle.mx_lookups.specs.numbers.Damage.{IsDamaged}
-use Rattle.mx_lookups.specs.numbers.Reads.{HasTablesOfRows, IsStop, Reads, rows_point}
+use Rattle.mx_lookups.specs.numbers.Reads.{HasTablesOfRowsAt, IsStop, Reads, ReadsAt}
 use Rattle.mx_lookups.proofs.NumbersProofs.ChosenLemmas.{chosen_is, none_other, other_chosen}
 use Rattle.mx_lookups.proofs.NumbersProofs.ReadLemmas.{follows, map_ok, map_read}
-use Rattle.mx_lookups.proofs.NumbersProofs.TableLemmas.{IsInEach, IsTable, entries}
+use Rattle.mx_lookups.proofs.NumbersProofs.TableLemmas.{IsInEachAt, IsTableAt, entries}
 
 -- ── what the tests of WHERE say of typed rows ──
 
@@ -87,13 +88,13 @@ damaged_by k readable other trees r mine is bad =
     let same : k.name ≡ other = cc in
     subst (λ name. IsDamaged name trees) same (inl (bad.0, bad.1, λ good. bad.2 (readable bad.0 good)))
 
-module _ {X V : Type 0} (k : Kept X) (law : IsLawful k) (is_in : IsInEach k) (readable : (row : Row) → IsReadable k.name row → IsReadableAs k row) (chosen : Row → Bool) (items : V → List X) (Is : List Entry → V → Type 0) where
+module _ {at : Point} {X V : Type 0} (k : Kept X) (law : IsLawful k) (is_in : IsInEachAt at k) (readable : (row : Row) → IsReadable k.name row → IsReadableAs k row) (chosen : Row → Bool) (items : V → List X) (Is : List Entry → V → Type 0) where
   -- the rows that were chosen are what is so of them, where the tables stand for a book
-  pub chosen_read : ((trees : Trees) (book : List Entry) → HasRowsAt rows_point trees book → (v : V) → AreFirst None k.order (table_named k.name) chosen trees (map k.as_cells (items v)) → All k.Fits (items v) → Is book v)
-      → ((trees : Trees) (book : List Entry) → HasRowsAt rows_point trees book → HasOther (IsReadableAs k) (rows_in (table_named k.name) trees) → ⊥)
-      → (old new : State) (result : Result V TableFault) → ReadsFirst k None k.order chosen items old new result → Reads Is old new result
+  pub chosen_read : ((trees : Trees) (book : List Entry) → HasRowsAt at trees book → (v : V) → AreFirst None k.order (table_named k.name) chosen trees (map k.as_cells (items v)) → All k.Fits (items v) → Is book v)
+      → ((trees : Trees) (book : List Entry) → HasRowsAt at trees book → HasOther (IsReadableAs k) (rows_in (table_named k.name) trees) → ⊥)
+      → (old new : State) (result : Result V TableFault) → ReadsFirst k None k.order chosen items old new result → ReadsAt at Is old new result
   chosen_read so none old new result r =
-      let has_it : HasTablesOfRows old.now.schema → k.IsIn old.now.schema = λ has. is_in _ has in
+      let has_it : HasTablesOfRowsAt at old.now.schema → k.IsIn old.now.schema = λ has. is_in _ has in
       record {
         read = λ clean book stands.
             both_ok (λ v. AreFirst None k.order (table_named k.name) chosen old.now.trees (map k.as_cells (items v))) (λ v. All k.Fits (items v)) (Is book) result (so old.now.trees book stands.rows) (r.rows clean (has_it stands.schema)) r.fits;
@@ -110,9 +111,9 @@ module _ {X V : Type 0} (k : Kept X) (law : IsLawful k) (is_in : IsInEach k) (re
         within = r.within;
       }
 
-module _ {X V : Type 0} (k : Kept X) (rows : List Entry → List X) (it : IsTable k rows) (chosen : Row → Bool) (picks : X → Bool) (same : (x : X) → chosen (k.as_cells x) ≡ picks x) (items : V → List X) where
+module _ {at : Point} {X V : Type 0} (k : Kept X) (rows : List Entry → List X) (it : IsTableAt at k rows) (chosen : Row → Bool) (picks : X → Bool) (same : (x : X) → chosen (k.as_cells x) ≡ picks x) (items : V → List X) where
   -- the rows that were chosen are those of the book that pass the test
-  pub rows_read : (old new : State) (result : Result V TableFault) → ReadsFirst k None k.order chosen items old new result → Reads (λ book v. items v ≡ filter picks (rows book)) old new result
+  pub rows_read : (old new : State) (result : Result V TableFault) → ReadsFirst k None k.order chosen items old new result → ReadsAt at (λ book v. items v ≡ filter picks (rows book)) old new result
   rows_read =
       chosen_read k it.law it.is_in it.readable chosen items (λ book v. items v ≡ filter picks (rows book))
       (λ trees book has v are fits. chosen_is k it.law trees (rows book) (it.keeps trees book has) chosen picks same (items v) are fits)
@@ -124,7 +125,7 @@ each_passes [] = refl
 each_passes (x ∷ xs) = ap (λ l. x ∷ l) (each_passes xs)
 
 -- all rows are those of the book
-pub all_read : {X V : Type 0} (k : Kept X) (rows : List Entry → List X) (it : IsTable k rows) (items : V → List X) (old new : State) (result : Result V TableFault) → ReadsFirst k None k.order is_any items old new result → Reads (λ book v. items v ≡ rows book) old new result
+pub all_read : {at : Point} {X V : Type 0} (k : Kept X) (rows : List Entry → List X) (it : IsTableAt at k rows) (items : V → List X) (old new : State) (result : Result V TableFault) → ReadsFirst k None k.order is_any items old new result → ReadsAt at (λ book v. items v ≡ rows book) old new result
 all_read k rows it items old new result r = follows _ _ old new result (λ book v b is. is ∙ each_passes (rows book)) (rows_read k rows it is_any (λ _. true) (λ x. refl) items old new result r)
 
 -- ── the last entry ──
@@ -141,10 +142,10 @@ last_is : (found : List EntryRow) → last_number found ≡ counted found
 last_is [] = refl
 last_is (row ∷ rows) = refl
 
--- the number of the last entry is how many there are
-pub last_read : {V : Type 0} (items : V → List EntryRow) (old new : State) (result : Result V TableFault) → ReadsFirst kept_entry (Some 1) (backward kept_entry.order) is_any items old new result
-    → Reads (λ book v. last_number (items v) ≡ length book) old new result
-last_read items old new result r =
+-- the number of the last entry is how many there are, at a point at which the table of entries is known
+pub last_read_at : {at : Point} → IsTableAt at kept_entry entry_rows → {V : Type 0} (items : V → List EntryRow) (old new : State) (result : Result V TableFault) → ReadsFirst kept_entry (Some 1) (backward kept_entry.order) is_any items old new result
+    → ReadsAt at (λ book v. last_number (items v) ≡ length book) old new result
+last_read_at {at} entries items old new result r =
     let table = table_named kept_entry.name in
     let other_first : ((rows : List Row) × AreFirst (Some 1) (backward kept_entry.order) table is_any old.now.trees rows × HasOther (IsReadableAs kept_entry) rows) → HasOther (IsReadableAs kept_entry) (rows_in table old.now.trees) =
     λ bad.
@@ -153,7 +154,7 @@ last_read items old new result r =
     let all : Has are.those bad.2.0 = taken_had 1 are.those bad.2.0 (subst (λ rs. Has rs bad.2.0) are.first first) in
     let those : AreFirst None (backward kept_entry.order) table is_any old.now.trees are.those = record { those = are.those; are = are.are; first = refl } in
     other_chosen (IsReadableAs kept_entry) table is_any old.now.trees are.those those (bad.2.0, contains_had are.those bad.2.0 all, bad.2.2) in
-    let has_it : HasTablesOfRows old.now.schema → kept_entry.IsIn old.now.schema = λ has. entries.is_in _ has in
+    let has_it : HasTablesOfRowsAt at old.now.schema → kept_entry.IsIn old.now.schema = λ has. entries.is_in _ has in
     record {
       read = λ clean book stands.
           let keeps = entries.keeps old.now.trees book stands.rows in
@@ -171,3 +172,8 @@ last_read items old new result r =
       inside = r.inside;
       within = r.within;
     }
+
+-- so at the point at which rows are looked up
+pub last_read : {V : Type 0} (items : V → List EntryRow) (old new : State) (result : Result V TableFault) → ReadsFirst kept_entry (Some 1) (backward kept_entry.order) is_any items old new result
+    → Reads (λ book v. last_number (items v) ≡ length book) old new result
+last_read = last_read_at entries

@@ -3,6 +3,7 @@ use Rattle.std.proofs.Common.{◌≡◌, inl, inr, List, Ok, Err, Result, refl, 
 use Rattle.std.specs.Prelude.{IsErrAnd, IfOk}
 use Rattle.sqlite.specs.Effect.{Database}
 use Rattle.sqlite.specs.State.{State, HasCleanDisk}
+use Rattle.mx_base.specs.declared.point.Point.{Point}
 use Rattle.mx_book.specs.commands.Act.{Entry}
 use Rattle.mx_book.specs.Book.{IsBook}
 use Rattle.mx_layout.specs.TableName.{TableName}
@@ -13,10 +14,10 @@ use Rattle.mx_layout.proofs.CrashLemmas.{stays_then, within_then}
 use Rattle.mx_tables.specs.Calls.{OnRead}
 use Rattle.mx_book_tables.specs.stands.Stands.{HasRowsAt}
 use Rattle.mx_lookups.specs.numbers.Damage.{IsDamaged}
-use Rattle.mx_lookups.specs.numbers.Reads.{HasTablesOfRows, Reads, rows_point, StandsFor}
+use Rattle.mx_lookups.specs.numbers.Reads.{HasTablesOfRowsAt, ReadsAt, StandsForAt}
 
 -- a look-up that did not answer is one of anything
-pub stops : {V W : Type 0} (P : List Entry → V → Type 0) (Q : List Entry → W → Type 0) (old new : State) (e : TableFault) → Reads P old new (Err e) → Reads Q old new (Err e)
+pub stops : {at : Point} {V W : Type 0} (P : List Entry → V → Type 0) (Q : List Entry → W → Type 0) (old new : State) (e : TableFault) → ReadsAt at P old new (Err e) → ReadsAt at Q old new (Err e)
 stops P Q old new e r = record {
   read = λ _ _ _. tt;
   cause = r.cause;
@@ -28,12 +29,12 @@ stops P Q old new e r = record {
 }
 
 -- the fault is handed on
-pub stopped : {V W : Type 0} (P : List Entry → V → Type 0) (Q : List Entry → W → Type 0) (old new : State) (e : TableFault) (result : Result W TableFault) → IsErrAnd result (λ f. f ≡ e) → Reads P old new (Err e) → Reads Q old new result
-stopped P Q old new e (Ok w) is r = absurd is
-stopped P Q old new e (Err f) is r = stops P Q old new f (subst (λ x. Reads P old new (Err x)) (sym is) r)
+pub stopped : {at : Point} {V W : Type 0} (P : List Entry → V → Type 0) (Q : List Entry → W → Type 0) (old new : State) (e : TableFault) (result : Result W TableFault) → IsErrAnd result (λ f. f ≡ e) → ReadsAt at P old new (Err e) → ReadsAt at Q old new result
+stopped {at} P Q old new e (Ok w) is r = absurd is
+stopped {at} P Q old new e (Err f) is r = stops P Q old new f (subst (λ x. ReadsAt at P old new (Err x)) (sym is) r)
 
 -- what follows from the answer
-pub told : {V W : Type 0} (P : List Entry → V → Type 0) (Q : List Entry → W → Type 0) (old new : State) (v : V) (w : W) → ((book : List Entry) → IsBook book → P book v → Q book w) → Reads P old new (Ok v) → Reads Q old new (Ok w)
+pub told : {at : Point} {V W : Type 0} (P : List Entry → V → Type 0) (Q : List Entry → W → Type 0) (old new : State) (v : V) (w : W) → ((book : List Entry) → IsBook book → P book v → Q book w) → ReadsAt at P old new (Ok v) → ReadsAt at Q old new (Ok w)
 told P Q old new v w so r = record {
   read = λ clean book stands. so book stands.rows.is_book (r.read clean book stands);
   cause = tt;
@@ -45,7 +46,7 @@ told P Q old new v w so r = record {
 }
 
 -- what was answered is so of no book, and the table is damaged
-pub refused : {V W : Type 0} (P : List Entry → V → Type 0) (Q : List Entry → W → Type 0) (old new : State) (v : V) (name : TableName) → ((book : List Entry) → IsBook book → P book v → ⊥) → (HasCleanDisk new → HasTablesOfRows old.now.schema → IsDamaged name old.now.trees) → Reads P old new (Ok v) → Reads Q old new (Err (fault.Damaged name))
+pub refused : {at : Point} {V W : Type 0} (P : List Entry → V → Type 0) (Q : List Entry → W → Type 0) (old new : State) (v : V) (name : TableName) → ((book : List Entry) → IsBook book → P book v → ⊥) → (HasCleanDisk new → HasTablesOfRowsAt at old.now.schema → IsDamaged name old.now.trees) → ReadsAt at P old new (Ok v) → ReadsAt at Q old new (Err (fault.Damaged name))
 refused P Q old new v name never reason r = record {
   read = λ _ _ _. tt;
   cause = inr (inr (name, refl));
@@ -69,12 +70,12 @@ map_ok P Q (Ok v) f h = f v h
 map_ok P Q (Err e) f h = tt
 
 -- one look-up behind another
-pub reads_then : {V W : Type 0} (P : List Entry → V → Type 0) (Q : List Entry → W → Type 0) (a b c : State) (v : V) (result : Result W TableFault) → Reads P a b (Ok v) → Reads Q b c result → Reads (λ book w. P book v × Q book w) a c result
-reads_then P Q a b c v result one two =
+pub reads_then : {at : Point} {V W : Type 0} (P : List Entry → V → Type 0) (Q : List Entry → W → Type 0) (a b c : State) (v : V) (result : Result W TableFault) → ReadsAt at P a b (Ok v) → ReadsAt at Q b c result → ReadsAt at (λ book w. P book v × Q book w) a c result
+reads_then {at} P Q a b c v result one two =
     let early : HasCleanDisk c → HasCleanDisk b = λ clean. omega (arith, two.within.survives.clean) in
-    let same : HasCleanDisk c → HasTablesOfRows a.now.schema → b.now ≡ a.now = λ clean has. one.unchanged (early clean) has in
-    let has_too : HasCleanDisk c → HasTablesOfRows a.now.schema → HasTablesOfRows b.now.schema = λ clean has. subst (λ (d : Database). HasTablesOfRows d.schema) (sym (same clean has)) has in
-    let stands_too : HasCleanDisk c → (book : List Entry) → StandsFor a book → StandsFor b book = λ clean book stands. record { schema = has_too clean stands.schema; rows = subst (λ (d : Database). HasRowsAt rows_point d.trees book) (sym (same clean stands.schema)) stands.rows } in
+    let same : HasCleanDisk c → HasTablesOfRowsAt at a.now.schema → b.now ≡ a.now = λ clean has. one.unchanged (early clean) has in
+    let has_too : HasCleanDisk c → HasTablesOfRowsAt at a.now.schema → HasTablesOfRowsAt at b.now.schema = λ clean has. subst (λ (d : Database). HasTablesOfRowsAt at d.schema) (sym (same clean has)) has in
+    let stands_too : HasCleanDisk c → (book : List Entry) → StandsForAt at a book → StandsForAt at b book = λ clean book stands. record { schema = has_too clean stands.schema; rows = subst (λ (d : Database). HasRowsAt at d.trees book) (sym (same clean stands.schema)) stands.rows } in
     record {
       read = λ clean book stands. map_ok _ _ result (λ w q. (one.read (early clean) book stands, q)) (two.read clean book (stands_too clean book stands));
       cause = two.cause;
@@ -86,7 +87,7 @@ reads_then P Q a b c v result one two =
     }
 
 -- what follows from what is answered, where it is
-pub follows : {V : Type 0} (P Q : List Entry → V → Type 0) (old new : State) (result : Result V TableFault) → ((book : List Entry) (v : V) → IsBook book → P book v → Q book v) → Reads P old new result → Reads Q old new result
+pub follows : {at : Point} {V : Type 0} (P Q : List Entry → V → Type 0) (old new : State) (result : Result V TableFault) → ((book : List Entry) (v : V) → IsBook book → P book v → Q book v) → ReadsAt at P old new result → ReadsAt at Q old new result
 follows P Q old new result so r = record {
   read = λ clean book stands. map_ok (P book) (Q book) result (λ v p. so book v stands.rows.is_book p) (r.read clean book stands);
   cause = r.cause;
@@ -98,7 +99,7 @@ follows P Q old new result so r = record {
 }
 
 -- memory ran out behind what was answered
-pub no_memory : {V W : Type 0} (P : List Entry → V → Type 0) (Q : List Entry → W → Type 0) (old new : State) (v : V) → Reads P old new (Ok v) → Reads Q old new (Err fault.Memory)
+pub no_memory : {at : Point} {V W : Type 0} (P : List Entry → V → Type 0) (Q : List Entry → W → Type 0) (old new : State) (v : V) → ReadsAt at P old new (Ok v) → ReadsAt at Q old new (Err fault.Memory)
 no_memory P Q old new v r = record {
   read = λ _ _ _. tt;
   cause = inl refl;

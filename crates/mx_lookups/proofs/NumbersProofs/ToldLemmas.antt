@@ -10,6 +10,7 @@ use Rattle.sqlite.specs.State.{State, HasCleanDisk}
 use Rattle.sqlite.specs.Tree.{Trees}
 use Rattle.sqlite_rules.specs.Lists.{Has}
 use Rattle.sqlite_rules.proofs.ListLemmas.{contains_had, fails_has}
+use Rattle.mx_base.specs.declared.point.Point.{Point}
 use Rattle.mx_book.specs.commands.Act.{Entry}
 use Rattle.mx_book.specs.commands.Programme.{task_shape}
 use Rattle.mx_registers.specs.Merge.{task_said}
@@ -22,31 +23,31 @@ use Rattle.mx_layout.specs.kept.Cells.{kept_task}
 use Rattle.mx_layout.specs.kept.Kept.{Kept}
 use Rattle.mx_table_rows.specs.chosen.Calls.{ReadsFirst}
 use Rattle.mx_table_rows.specs.chosen.Counts.{CountsRows}
-use Rattle.mx_lookups.specs.numbers.AnyRows.{AreChosen, Gives, ReadsAny}
-use Rattle.mx_lookups.specs.numbers.Reads.{HasTablesOfRows, Reads}
-use Rattle.mx_lookups.specs.numbers.Told.{CountDamage, Damage, DamageBy, HasNone, IsChosen, TellsDamage, UnreadFirst}
+use Rattle.mx_lookups.specs.numbers.AnyRows.{AreChosen, Gives, ReadsAnyAt}
+use Rattle.mx_lookups.specs.numbers.Reads.{HasTablesOfRowsAt, ReadsAt}
+use Rattle.mx_lookups.specs.numbers.Told.{CountDamage, Damage, DamageBy, HasNone, IsChosen, TellsDamageAt, UnreadFirst}
 use Rattle.mx_lookups.proofs.NumbersProofs.AnyLemmas.{found_some, none_chosen}
 use Rattle.mx_lookups.proofs.NumbersProofs.LookupLemmas.{damage_of}
-use Rattle.mx_lookups.proofs.NumbersProofs.TableLemmas.{IsInEach, IsTable}
+use Rattle.mx_lookups.proofs.NumbersProofs.TableLemmas.{IsInEachAt, IsTableAt}
 
 -- the fault is handed on
-pub handed : {V W : Type 0} {One : Damage} {Of : Damage} {old new : State} {e : TableFault} {result : Result W TableFault} → ((name : TableName) (trees : Trees) → One name trees → Of name trees) → IsErrAnd result (λ f. f ≡ e) → TellsDamage {V = V} One old new (Err e) → TellsDamage Of old new result
+pub handed : {at : Point} {V W : Type 0} {One : Damage} {Of : Damage} {old new : State} {e : TableFault} {result : Result W TableFault} → ((name : TableName) (trees : Trees) → One name trees → Of name trees) → IsErrAnd result (λ f. f ≡ e) → TellsDamageAt {V = V} at One old new (Err e) → TellsDamageAt at Of old new result
 handed {result = Ok w} so is one = absurd is
 handed {old = old} {e = e} {result = Err f} so is one = record { told = λ clean has name same. so name old.now.trees (one.told clean has name (let it : e ≡ Damaged name = cc in ap Err it)) }
 
 -- the reason is one of those
-pub told_as : {V : Type 0} {One : Damage} {Of : Damage} {old new : State} {result : Result V TableFault} → ((name : TableName) (trees : Trees) → One name trees → Of name trees) → TellsDamage One old new result → TellsDamage Of old new result
+pub told_as : {at : Point} {V : Type 0} {One : Damage} {Of : Damage} {old new : State} {result : Result V TableFault} → ((name : TableName) (trees : Trees) → One name trees → Of name trees) → TellsDamageAt at One old new result → TellsDamageAt at Of old new result
 told_as {old = old} so one = record { told = λ clean has name is. so name old.now.trees (one.told clean has name is) }
 
 -- the table is told for what is so here
-pub told_here : {V : Type 0} {Of : Damage} {old new : State} (name : TableName) → (HasCleanDisk new → HasTablesOfRows old.now.schema → Of name old.now.trees) → TellsDamage {V = V} Of old new (Err (Damaged name))
+pub told_here : {at : Point} {V : Type 0} {Of : Damage} {old new : State} (name : TableName) → (HasCleanDisk new → HasTablesOfRowsAt at old.now.schema → Of name old.now.trees) → TellsDamageAt {V = V} at Of old new (Err (Damaged name))
 told_here {Of = Of} {old = old} name so = record { told = λ clean has other is. (let same : name ≡ other = cc in subst (λ it. Of it old.now.trees) same (so clean has)) }
 
 -- ── one table ──
 
 -- one of the rows that are chosen is none of its type
-pub unread_in : {X V W : Type 0} {k : Kept X} (is_in : IsInEach k) {most : Option ℕ} {order : Row → Row → Ordering} {chosen : Row → Bool} {items : V → List X} {old new : State} {e : TableFault} {result : Result W TableFault}
-    → IsErrAnd result (λ f. f ≡ e) → ReadsFirst k most order chosen items old new (Err e) → TellsDamage (UnreadFirst k most order chosen) old new result
+pub unread_in : {at : Point} {X V W : Type 0} {k : Kept X} (is_in : IsInEachAt at k) {most : Option ℕ} {order : Row → Row → Ordering} {chosen : Row → Bool} {items : V → List X} {old new : State} {e : TableFault} {result : Result W TableFault}
+    → IsErrAnd result (λ f. f ≡ e) → ReadsFirst k most order chosen items old new (Err e) → TellsDamageAt at (UnreadFirst k most order chosen) old new result
 unread_in {k = k} is_in {old = old} {e = e} {result = Ok w} is r = absurd is
 unread_in {V = V} {k = k} is_in {old = old} {e = e} {result = Err f} is r = record {
   told = λ clean has name same.
@@ -57,12 +58,12 @@ unread_in {V = V} {k = k} is_in {old = old} {e = e} {result = Err f} is r = reco
 }
 
 -- so of a table of which it is known what it keeps
-pub unread : {X V W : Type 0} {k : Kept X} {book_rows : List Entry → List X} (it : IsTable k book_rows) {most : Option ℕ} {order : Row → Row → Ordering} {chosen : Row → Bool} {items : V → List X} {old new : State} {e : TableFault} {result : Result W TableFault}
-    → IsErrAnd result (λ f. f ≡ e) → ReadsFirst k most order chosen items old new (Err e) → TellsDamage (UnreadFirst k most order chosen) old new result
+pub unread : {at : Point} {X V W : Type 0} {k : Kept X} {book_rows : List Entry → List X} (it : IsTableAt at k book_rows) {most : Option ℕ} {order : Row → Row → Ordering} {chosen : Row → Bool} {items : V → List X} {old new : State} {e : TableFault} {result : Result W TableFault}
+    → IsErrAnd result (λ f. f ≡ e) → ReadsFirst k most order chosen items old new (Err e) → TellsDamageAt at (UnreadFirst k most order chosen) old new result
 unread it = unread_in it.is_in
 
 -- there are more rows than are counted
-pub uncounted : {X W : Type 0} {k : Kept X} {book_rows : List Entry → List X} (it : IsTable k book_rows) {old new : State} {e : TableFault} {result : Result W TableFault} → IsErrAnd result (λ f. f ≡ e) → CountsRows k old new (Err e) → TellsDamage (CountDamage k.name) old new result
+pub uncounted : {at : Point} {X W : Type 0} {k : Kept X} {book_rows : List Entry → List X} (it : IsTableAt at k book_rows) {old new : State} {e : TableFault} {result : Result W TableFault} → IsErrAnd result (λ f. f ≡ e) → CountsRows k old new (Err e) → TellsDamageAt at (CountDamage k.name) old new result
 uncounted {k = k} it {e = e} {result = Ok w} is r = absurd is
 uncounted {k = k} it {old = old} {e = e} {result = Err f} is r = record {
   told = λ clean has name same.
@@ -83,17 +84,17 @@ has_none {k = k} {chosen = chosen} {trees = trees} of gave = none_of k chosen tr
 -- ── one look-up behind another ──
 
 -- what was looked up second, over the rows that there were before the first
-pub told_later : {V W : Type 0} {P : List Entry → V → Type 0} {Of : Damage} {a b c : State} {v : V} {result : Result W TableFault} → Reads P a b (Ok v) → IsWithin b c → TellsDamage Of b c result → TellsDamage Of a c result
-told_later {Of = Of} {a = a} {b = b} one within two = record {
+pub told_later : {at : Point} {V W : Type 0} {P : List Entry → V → Type 0} {Of : Damage} {a b c : State} {v : V} {result : Result W TableFault} → ReadsAt at P a b (Ok v) → IsWithin b c → TellsDamageAt at Of b c result → TellsDamageAt at Of a c result
+told_later {at = at} {Of = Of} {a = a} {b = b} one within two = record {
   told = λ clean has name is.
       let early : HasCleanDisk b = omega (arith, within.survives.clean) in
       let same : b.now ≡ a.now = one.unchanged early has in
-      subst (λ (d : Database). Of name d.trees) same (two.told clean (subst (λ (d : Database). HasTablesOfRows d.schema) (sym same) has) name is);
+      subst (λ (d : Database). Of name d.trees) same (two.told clean (subst (λ (d : Database). HasTablesOfRowsAt at d.schema) (sym same) has) name is);
 }
 
 -- what was looked up by what was found
-pub told_by : {A V W : Type 0} {P : List Entry → V → Type 0} {One : Damage} {First : Trees → Option A → Type 0} {Then : A → Damage} {a b c : State} {v : V} {found : Option A} {n : A} {result : Result W TableFault} → found ≡ Some n
-    → Reads P a b (Ok v) → ReadsAny First a b (Ok found) → IsWithin b c → TellsDamage (Then n) b c result → TellsDamage (DamageBy One First Then) a c result
+pub told_by : {at : Point} {A V W : Type 0} {P : List Entry → V → Type 0} {One : Damage} {First : Trees → Option A → Type 0} {Then : A → Damage} {a b c : State} {v : V} {found : Option A} {n : A} {result : Result W TableFault} → found ≡ Some n
+    → ReadsAt at P a b (Ok v) → ReadsAnyAt at First a b (Ok found) → IsWithin b c → TellsDamageAt at (Then n) b c result → TellsDamageAt at (DamageBy One First Then) a c result
 told_by {First = First} {Then = Then} {n = n} is one first within two = record { told = λ clean has name same. inr (n, found_some First is first within clean has, (told_later {Of = Then n} one within two).told clean has name same) }
 
 -- one of the tasks lacks its shape

@@ -1,5 +1,5 @@
 -- Worked rows: the point at which rows are looked up, which rows need one of another table, by the names that the file gives, and what rows that were found come to.
-use Rattle.std.proofs.Common.{refl, ◌≡◌, ℕ, List, [], ◌∷◌, map, filter, pos, true, false, Option, Some, None}
+use Rattle.std.proofs.Common.{inl, inr, refl, ◌≡◌, ℕ, List, [], ◌∷◌, map, filter, pos, true, false, Option, Some, None}
 use Rattle.std.specs.Prelude.{codes, slice_get}
 use Rattle.std.specs.Option.{option_map}
 use Rattle.sqlite.specs.declared.types.Value.TheVariants.{Int, Text}
@@ -7,6 +7,7 @@ use Rattle.sqlite.specs.Order.{Row}
 use Rattle.sqlite_sql.specs.Ops.{binary}
 use Rattle.sqlite_value.specs.Order.{value_cmp}
 use lib.Ieee.{is_nan, lt}
+use Rattle.mx_base.specs.Settled.{settled}
 use Rattle.mx_base.specs.declared.rows.rows.TaskRow.{TaskRow}
 use Rattle.mx_book.specs.declared.found.Found.TheVariants as founds
 use Rattle.mx_book.proofs.Worked.{abcd, at, used}
@@ -18,13 +19,21 @@ use Rattle.mx_layout.specs.TableName.{TableName}
 use Rattle.mx_lookups.specs.numbers.Damage.{Need, is_deferral, needs}
 use Rattle.mx_lookups.specs.numbers.Given.{is_of}
 use Rattle.mx_lookups.specs.numbers.InForce.{born_as, rows_in_force}
-use Rattle.mx_lookups.specs.numbers.Reads.{rows_point}
+use Rattle.mx_lookups.specs.numbers.Reads.{IsRowsPoint, rows_point}
 
 -- ── the point ──
 
 -- the row of `office`: layout 2, no step, up to no entry
 looked_up_at : point_cells rows_point ≡ Int (pos 1) ∷ Int (pos 2) ∷ Int (pos 0) ∷ Int (pos 0) ∷ []
 looked_up_at = refl
+
+-- so layout 3, with no step
+looked_up_later : point_cells (settled 3) ≡ Int (pos 1) ∷ Int (pos 3) ∷ Int (pos 0) ∷ Int (pos 0) ∷ []
+looked_up_later = refl
+
+-- rows can be looked up at both
+points_of_rows : IsRowsPoint rows_point × IsRowsPoint (settled 3)
+points_of_rows = (inl refl, inr refl)
 
 -- ── what a row needs in another table ──
 
@@ -44,7 +53,10 @@ all_needs : map named needs
     ∷ ((codes "entry", Some (codes "seq")), (codes "defect", codes "defect"))
     ∷ ((codes "defect", Some (codes "seq")), (codes "entry", codes "defect"))
     ∷ ((codes "defect", Some (codes "aircraft")), (codes "aircraft", codes "defect"))
-    ∷ ((codes "extension", Some (codes "defect")), (codes "defect", codes "extension")) ∷ []
+    ∷ ((codes "extension", Some (codes "defect")), (codes "defect", codes "extension"))
+    ∷ ((codes "entry", Some (codes "seq")), (codes "defect3", codes "defect3"))
+    ∷ ((codes "defect3", Some (codes "seq")), (codes "entry", codes "defect3"))
+    ∷ ((codes "defect3", Some (codes "aircraft")), (codes "aircraft", codes "defect3")) ∷ []
 all_needs = refl
 
 -- the row of an entry, of the kind with this number
@@ -57,7 +69,7 @@ unfolding binary value_cmp is_nan lt
 deferrals = refl
 
 -- of entries those alone need a deferral, and each row of the other tables has its needs
-needs_of_a_release : map (λ need. need.has (entry_cells 8)) needs ≡ true ∷ true ∷ true ∷ true ∷ false ∷ true ∷ true ∷ true ∷ []
+needs_of_a_release : map (λ need. need.has (entry_cells 8)) needs ≡ true ∷ true ∷ true ∷ true ∷ false ∷ true ∷ true ∷ true ∷ false ∷ true ∷ true ∷ []
 unfolding binary value_cmp is_nan lt
 needs_of_a_release = refl
 

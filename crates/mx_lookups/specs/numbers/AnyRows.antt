@@ -5,15 +5,20 @@ use Rattle.std.specs.declared.cmp.Ordering.{Ordering}
 use Rattle.sqlite.specs.Order.{Row}
 use Rattle.sqlite.specs.State.{State, HasCleanDisk}
 use Rattle.sqlite.specs.Tree.{Trees}
+use Rattle.mx_base.specs.declared.point.Point.{Point}
 use Rattle.mx_layout.specs.declared.fault.TableFault.{TableFault}
 use Rattle.mx_layout.specs.Names.{table_named}
 use Rattle.mx_layout.specs.kept.Kept.{Kept}
 use Rattle.mx_table_rows.specs.chosen.Choices.{AreFirst}
-use Rattle.mx_lookups.specs.numbers.Reads.{HasTablesOfRows}
+use Rattle.mx_lookups.specs.numbers.Reads.{HasTablesOfRowsAt, rows_point}
 
--- what is answered is so of the rows that the tables have, whatever these are
-pub record ReadsAny {V : Type 0} (Is : Trees → V → Type 0) (old new : State) (result : Result V TableFault) : Type 0 where
-  pub found : HasCleanDisk new → HasTablesOfRows old.now.schema → IfOk result (Is old.now.trees)
+-- at the point what is answered is so of the rows that the tables have, whatever these are
+pub record ReadsAnyAt {V : Type 0} (at : Point) (Is : Trees → V → Type 0) (old new : State) (result : Result V TableFault) : Type 0 where
+  pub found : HasCleanDisk new → HasTablesOfRowsAt at old.now.schema → IfOk result (Is old.now.trees)
+
+-- so at the point at which rows are looked up
+abbrev pub ReadsAny : {V : Type 0} → (Trees → V → Type 0) → State → State → Result V TableFault → Type 0
+ReadsAny = ReadsAnyAt rows_point
 
 -- these rows of the table are chosen, the first so many in this order, and each fits its columns
 pub record AreChosen {X : Type 0} (k : Kept X) (most : Option ℕ) (order : Row → Row → Ordering) (chosen : Row → Bool) (trees : Trees) (rows : List X) : Type 0 where

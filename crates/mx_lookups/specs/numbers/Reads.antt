@@ -19,25 +19,41 @@ use Rattle.mx_lookups.specs.numbers.Damage.{IsDamaged}
 abbrev pub rows_point : Point
 rows_point = settled NEWEST_LAYOUT
 
--- the schema has the tables that a file has there, and behind them whatever tables and indexes
-unfoldable pub HasTablesOfRows : Schema → Type 0
-HasTablesOfRows schema = HasTablesAt rows_point schema
+-- rows can be looked up at this point: settled at layout 2, or at layout 3
+abbrev pub IsRowsPoint : Point → Type 0
+IsRowsPoint at = (at ≡ settled 2) ⊎ (at ≡ settled 3)
 
--- a transaction is at that point, and its tables have the rows of the book
-pub record StandsFor (s : State) (book : List Entry) : Type 0 where
-  pub schema : HasTablesOfRows s.now.schema
-  pub rows : HasRowsAt rows_point s.now.trees book
+-- the schema has the tables that a file has at the point, and behind them whatever tables and indexes
+unfoldable pub HasTablesOfRowsAt : Point → Schema → Type 0
+HasTablesOfRowsAt at schema = HasTablesAt at schema
+
+-- so at the point at which rows are looked up
+abbrev pub HasTablesOfRows : Schema → Type 0
+HasTablesOfRows = HasTablesOfRowsAt rows_point
+
+-- a transaction is at the point, and its tables have the rows of the book
+pub record StandsForAt (at : Point) (s : State) (book : List Entry) : Type 0 where
+  pub schema : HasTablesOfRowsAt at s.now.schema
+  pub rows : HasRowsAt at s.now.trees book
+
+-- so at the point at which rows are looked up
+abbrev pub StandsFor : State → List Entry → Type 0
+StandsFor = StandsForAt rows_point
 
 -- want of memory, the store, or a table that is damaged
 abbrev pub IsStop : TableFault → Type 0
 IsStop e = (e ≡ Memory) ⊎ ((e ≡ Store) ⊎ ((name : TableName) × (e ≡ Damaged name)))
 
--- Rows were looked up inside a transaction, from one state to the next. What is answered is so of the book that the tables stand for, and where they stand for one no table is damaged; over any rows a table is told damaged only where it is; nothing changed; or want of memory or the store stopped the call.
-pub record Reads {V : Type 0} (Is : List Entry → V → Type 0) (old new : State) (result : Result V TableFault) : Type 0 where
-  pub read : HasCleanDisk new → (book : List Entry) → StandsFor old book → IfOk result (Is book)
+-- Rows were looked up inside a transaction at a point, from one state to the next. What is answered is so of the book that the tables stand for, and where they stand for one no table is damaged; over any rows a table is told damaged only where it is; nothing changed; or want of memory or the store stopped the call.
+pub record ReadsAt {V : Type 0} (at : Point) (Is : List Entry → V → Type 0) (old new : State) (result : Result V TableFault) : Type 0 where
+  pub read : HasCleanDisk new → (book : List Entry) → StandsForAt at old book → IfOk result (Is book)
   pub cause : IfErr result IsStop
-  pub no_book : HasCleanDisk new → (name : TableName) → result ≡ Err (Damaged name) → (book : List Entry) → StandsFor old book → ⊥
-  pub damaged : HasCleanDisk new → HasTablesOfRows old.now.schema → (name : TableName) → result ≡ Err (Damaged name) → IsDamaged name old.now.trees
-  pub unchanged : HasCleanDisk new → HasTablesOfRows old.now.schema → OnRead result (new.now ≡ old.now)
+  pub no_book : HasCleanDisk new → (name : TableName) → result ≡ Err (Damaged name) → (book : List Entry) → StandsForAt at old book → ⊥
+  pub damaged : HasCleanDisk new → HasTablesOfRowsAt at old.now.schema → (name : TableName) → result ≡ Err (Damaged name) → IsDamaged name old.now.trees
+  pub unchanged : HasCleanDisk new → HasTablesOfRowsAt at old.now.schema → OnRead result (new.now ≡ old.now)
   pub inside : HasCleanDisk new → IsTrue old.in_transaction → OnRead result (StaysInside old new)
   pub within : IsWithin old new
+
+-- so at the point at which rows are looked up
+abbrev pub Reads : {V : Type 0} → (List Entry → V → Type 0) → State → State → Result V TableFault → Type 0
+Reads = ReadsAt rows_point

@@ -8,6 +8,7 @@ use Rattle.sqlite.specs.Order.{Row}
 use Rattle.sqlite.specs.State.{State, HasCleanDisk}
 use Rattle.sqlite.specs.Tree.{Trees}
 use Rattle.mx_base.specs.declared.amounts.Base.{Base}
+use Rattle.mx_base.specs.declared.point.Point.{Point}
 use Rattle.mx_book.specs.commands.Programme.{task_shape}
 use Rattle.mx_book.specs.declared.commands.item.Item.{Item}
 use Rattle.mx_book.specs.declared.commands.item.Item.TheVariants.{Airframe, Component}
@@ -31,7 +32,7 @@ use Rattle.mx_row_rules.specs.found.Lives.{base_found, life_in_base}
 use Rattle.mx_lookups.specs.numbers.AnyRows.{AreChosen, Gives}
 use Rattle.mx_lookups.specs.numbers.Damage.{IsUncounted}
 use Rattle.mx_lookups.specs.numbers.Given.{AircraftNumber, BornOf, ComponentNumber, DefectNumber, DocIfOpen, DocOfNumber, IsRectifiedAt, ItemNumber, LifeOf, NextRevision, NumberFitted, ProgrammeNumber, is_of}
-use Rattle.mx_lookups.specs.numbers.Reads.{HasTablesOfRows}
+use Rattle.mx_lookups.specs.numbers.Reads.{HasTablesOfRowsAt, rows_point}
 
 -- ── the forms ──
 
@@ -39,9 +40,13 @@ use Rattle.mx_lookups.specs.numbers.Reads.{HasTablesOfRows}
 abbrev pub Damage : Type 1
 Damage = TableName → Trees → Type 0
 
--- a table is told damaged only where this is so of the rows
-pub record TellsDamage {V : Type 0} (Of : Damage) (old new : State) (result : Result V TableFault) : Type 0 where
-  pub told : HasCleanDisk new → HasTablesOfRows old.now.schema → (name : TableName) → result ≡ Err (Damaged name) → Of name old.now.trees
+-- at the point a table is told damaged only where this is so of the rows
+pub record TellsDamageAt {V : Type 0} (at : Point) (Of : Damage) (old new : State) (result : Result V TableFault) : Type 0 where
+  pub told : HasCleanDisk new → HasTablesOfRowsAt at old.now.schema → (name : TableName) → result ≡ Err (Damaged name) → Of name old.now.trees
+
+-- so at the point at which rows are looked up
+abbrev pub TellsDamage : {V : Type 0} → Damage → State → State → Result V TableFault → Type 0
+TellsDamage = TellsDamageAt rows_point
 
 -- one of the rows that are chosen from the table, the first so many in this order, is none of its type
 abbrev pub UnreadFirst : {X : Type 0} → Kept X → Option ℕ → (Row → Row → Ordering) → (Row → Bool) → Damage

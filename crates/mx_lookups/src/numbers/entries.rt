@@ -10,7 +10,7 @@ ghost use Rattle.mx_table_rows.specs.chosen.Choices.{backward, has_value, is_any
 ghost use Rattle.mx_row_rules.specs.found.Names.{entry_number, last_number};
 ghost use Rattle.mx_lookups.specs.numbers.AnyRows.{Gives, GivesFirst};
 ghost use Rattle.mx_lookups.specs.numbers.Given.{DefectNumber};
-ghost use Rattle.mx_lookups.specs.numbers.LookUp.{IsLookUp};
+ghost use Rattle.mx_lookups.specs.numbers.LookUp.{IsLookUp, LooksUp};
 ghost use Rattle.mx_lookups.specs.numbers.Told.{EntryDamage, LastDamage};
 
 use mx_base::Doc;
@@ -56,7 +56,7 @@ pub fn defect_number<S: Alter>(
     tx: &mut Transaction<'_, S>,
     doc: &Doc,
 ) -> Result<Option<u32>, TableFault>
-    ensures looks_up { IsLookUp S.Store
+    ensures looks_up { LooksUp S.Store
         (λ book number. number ≡ seq_of_defect book doc.now)
         (DefectNumber doc.now)
         (EntryDamage doc.now)

@@ -8,7 +8,7 @@ ghost use Rattle.mx_table_rows.specs.chosen.Choices.{has_value};
 ghost use Rattle.mx_row_rules.specs.found.Said.{aircraft_in, component_in};
 ghost use Rattle.mx_lookups.specs.numbers.AnyRows.{Gives};
 ghost use Rattle.mx_lookups.specs.numbers.Given.{AircraftNumber, ComponentNumber, ItemNumber, PartAt, TailOfNumber};
-ghost use Rattle.mx_lookups.specs.numbers.LookUp.{IsLookUp};
+ghost use Rattle.mx_lookups.specs.numbers.LookUp.{IsLookUp, LooksUp};
 ghost use Rattle.mx_lookups.specs.numbers.Told.{AircraftDamage, ComponentDamage, ItemDamage, PartDamage, TailDamage};
 
 use mx_base::{Part, Position, Serial, Tail};
@@ -63,7 +63,7 @@ pub fn aircraft_number<S: Alter>(
     tx: &mut Transaction<'_, S>,
     tail: &Tail,
 ) -> Result<Option<u32>, TableFault>
-    ensures looks_up { IsLookUp S.Store
+    ensures looks_up { LooksUp S.Store
         (λ book number. number ≡ seq_of_tail book tail.now)
         (AircraftNumber tail.now)
         (AircraftDamage tail.now)
@@ -80,7 +80,7 @@ pub fn component_number<S: Alter>(
     tx: &mut Transaction<'_, S>,
     serial: &Serial,
 ) -> Result<Option<u32>, TableFault>
-    ensures looks_up { IsLookUp S.Store
+    ensures looks_up { LooksUp S.Store
         (λ book number. number ≡ seq_of_serial book serial.now)
         (ComponentNumber serial.now)
         (ComponentDamage serial.now)
@@ -97,7 +97,7 @@ pub fn item_number<S: Alter>(
     tx: &mut Transaction<'_, S>,
     item: &Item,
 ) -> Result<Option<u32>, TableFault>
-    ensures looks_up { IsLookUp S.Store
+    ensures looks_up { LooksUp S.Store
         (λ book number. number ≡ seq_of_item book item.now)
         (ItemNumber item.now)
         (ItemDamage item.now)
@@ -116,7 +116,7 @@ pub fn tail_of_number<S: Alter>(
     tx: &mut Transaction<'_, S>,
     number: u32,
 ) -> Result<Option<Tail>, TableFault>
-    ensures looks_up { IsLookUp S.Store
+    ensures looks_up { LooksUp S.Store
         (λ book tail. tail ≡ tail_at book number)
         (TailOfNumber number)
         (TailDamage number)

@@ -11,13 +11,13 @@ pub returns-in_ok-rows-in-Some : goal.returns-in_ok-rows-in-Some
 returns-in_ok-rows-in-Some g c = record {
   looks_up =
       let made = c.is_rectified_in.ensures ∙ ap is_rectified_in c.deref.ensures.value in
-      answers (behind c.in_ok-found.ensures.looks_up (chosen release_lines c.in_ok-rows-in-Some.ensures.same_reference (lines_of_defect _ c.in_ok-rows-in-Some.ensures.reads) c.in_ok-rows-in-Some.ensures.reads))
+      answers (behind c.in_ok-found.ensures.looks_up.now (chosen release_lines c.in_ok-rows-in-Some.ensures.same_reference (lines_of_defect _ c.in_ok-rows-in-Some.ensures.reads) c.in_ok-rows-in-Some.ensures.reads))
       (λ book b both. made ∙ ap is_rectified_in both.1 ∙ rectified_is book b c.args.doc.now c.in-Some.number (sym both.0 ∙ c.in-Some.is))
       (λ _ both. some_given c.in-Some.is both.0 (_, both.1, made));
 }
 
 pub returns-in-None : goal.returns-in-None
-returns-in-None g c = record { looks_up = answers c.in_ok-found.ensures.looks_up (λ book b found. sym (not_rectified book b c.args.doc.now (sym found ∙ c.in-None.is))) (λ _ found. none_given c.in-None.is found refl) }
+returns-in-None g c = record { looks_up = answers c.in_ok-found.ensures.looks_up.now (λ book b found. sym (not_rectified book b c.args.doc.now (sym found ∙ c.in-None.is))) (λ _ found. none_given c.in-None.is found refl) }
 
 pub returns-in_err-rows-in-Some : goal.returns-in_err-rows-in-Some
-returns-in_err-rows-in-Some g c = record { looks_up = hands c.from_residual-in_err-rows-in-Some.ensures.1 (λ _ _ it. inr (_, by_first (DefectNumber _) c.in-Some.is it.0, it.1)) (behind c.in_ok-found.ensures.looks_up (chosen release_lines c.in_err-rows-in-Some.ensures.same_reference (lines_of_defect _ c.in_err-rows-in-Some.ensures.reads) c.in_err-rows-in-Some.ensures.reads)) }
+returns-in_err-rows-in-Some g c = record { looks_up = hands c.from_residual-in_err-rows-in-Some.ensures.1 (λ _ _ it. inr (_, by_first (DefectNumber _) c.in-Some.is it.0, it.1)) (behind c.in_ok-found.ensures.looks_up.now (chosen release_lines c.in_err-rows-in-Some.ensures.same_reference (lines_of_defect _ c.in_err-rows-in-Some.ensures.reads) c.in_err-rows-in-Some.ensures.reads)) }

@@ -44,11 +44,11 @@ loop-row-preserved-in_ok-push-in-Some-said g c =
     let known : ◌≡◌ {A = Option Defect} c.in_ok-said.said (Some c.in-Some-said.defect) = c.in-Some-said.is in
     let out : contains nat_eq rectified row.seq ≡ false = search rules in
     record {
-      same_reference = c.in_ok-said.ensures.looks_up.same_reference ∙ c.loop-row.invariant.same_reference;
+      same_reference = c.in_ok-said.ensures.looks_up.now.same_reference ∙ c.loop-row.invariant.same_reference;
       walks = said_more kept_defect deferral_rows (said_but rectified) IsThere is_any (SaysBut rectified) _ _ _ _ _ c.in-Some.later.now row c.loop-row.invariant.walks c.in-Some.ensures.cases.0 _ (DefectOfRow row) c.in_ok-said.said c.in-Some-said.defect _
           c.in_ok-push-in-Some-said.ensures.items
           (λ book found. ap (λ t. cond t None (deferred_said book row)) out ∙ sym found ∙ known)
-          (λ trees any. said_left rectified trees row out c.in-Some-said.defect (subst (DefectOfRow row trees) known any)) c.in_ok-said.ensures.looks_up.reads c.in_ok-said.ensures.looks_up.any_rows;
+          (λ trees any. said_left rectified trees row out c.in-Some-said.defect (subst (DefectOfRow row trees) known any)) c.in_ok-said.ensures.looks_up.now.reads c.in_ok-said.ensures.looks_up.now.any_rows;
     }
 
 pub loop-row-preserved : goal.loop-row-preserved
@@ -80,10 +80,10 @@ returns-in_err-said g c =
     record {
       looks_up = record {
         same_reference = search rules;
-        reads = walk_stopped kept_defect deferral_rows (said_but rectified) IsThere is_any (SaysBut rectified) _ _ _ _ _ c.loop-row.invariant.walks _ _ _ _ c.from_residual-in_err-said.ensures.1 c.in_err-said.ensures.looks_up.reads;
+        reads = walk_stopped kept_defect deferral_rows (said_but rectified) IsThere is_any (SaysBut rectified) _ _ _ _ _ c.loop-row.invariant.walks _ _ _ _ c.from_residual-in_err-said.ensures.1 c.in_err-said.ensures.looks_up.now.reads;
         any_rows = search rules;
         damage =
-            let said = c.in_err-said.ensures.looks_up in
+            let said = c.in_err-said.ensures.looks_up.now in
             told_as (λ name trees. each_under kept_defect is_any OfOne name trees (AreRectified rectified))
             (told_each kept_defect deferral_rows (said_but rectified) IsThere is_any (SaysBut rectified) _ _ _ _ _ c.in-Some.later.now row c.loop-row.invariant.walks c.in-Some.ensures.cases.0 (λ row name trees. AreRectified rectified trees → OfOne row name trees) _ said.reads.within
             (handed (λ name trees it known. inl (left_damage rectified trees row out name it known)) c.from_residual-in_err-said.ensures.1 said.damage));
@@ -94,7 +94,7 @@ pub returns-in-None : goal.returns-in-None
 returns-in-None g c =
     let rectified = c.args.rectified.now in
     let row = c.in-Some.row.now in
-    let said = c.in_ok-said.ensures.looks_up in
+    let said = c.in_ok-said.ensures.looks_up.now in
     let none : ◌≡◌ {A = Option Defect} c.in_ok-said.said None = c.in-None.is in
     let out : contains nat_eq rectified row.seq ≡ false = search rules in
     record {
@@ -118,7 +118,7 @@ returns-in_err-push-in-Some-said g c =
     record {
       looks_up = record {
         same_reference = search rules;
-        reads = walk_starved kept_defect deferral_rows (said_but rectified) IsThere is_any (SaysBut rectified) _ _ _ _ _ c.in-Some.later.now c.in-Some.row.now c.loop-row.invariant.walks c.in-Some.ensures.cases.0 _ _ c.in_ok-said.said _ c.from_residual-in_err-push-in-Some-said.ensures.1 c.in_ok-said.ensures.looks_up.reads;
+        reads = walk_starved kept_defect deferral_rows (said_but rectified) IsThere is_any (SaysBut rectified) _ _ _ _ _ c.in-Some.later.now c.in-Some.row.now c.loop-row.invariant.walks c.in-Some.ensures.cases.0 _ _ c.in_ok-said.said _ c.from_residual-in_err-push-in-Some-said.ensures.1 c.in_ok-said.ensures.looks_up.now.reads;
         any_rows = search rules;
         damage = search rules;
       };

@@ -46,11 +46,11 @@ loop-row-preserved-in_ok-push-in-Some-known g c =
     let name = c.in-Some-known.doc in
     let known : ◌≡◌ {A = Option (Option (List ℕ))} c.in_ok-found.found (Some (Some name)) = c.in-Some-found.is ∙ ap Some c.in-Some-known.is in
     record {
-      same_reference = c.in_ok-found.ensures.looks_up.same_reference ∙ c.loop-row.invariant.same_reference;
+      same_reference = c.in_ok-found.ensures.looks_up.now.same_reference ∙ c.loop-row.invariant.same_reference;
       walks = said_more kept_defect (rows_at c.args.aircraft) (λ book r. open_said book tail r) HasEntry (has_value 1 (Int (pos c.args.aircraft))) (OpenSaid c.args.tail.now) _ _ _ _ _ c.in-Some.later.now row c.loop-row.invariant.walks c.in-Some.ensures.cases.0 _ (DocIfOpen row.seq) c.in_ok-found.found c.defect_said.result _
           c.in_ok-push-in-Some-known.ensures.items
           (λ book found. left_open (λ doc. defect_said doc tail row) (is_rectified_at book row.seq) (doc_at book row.seq) name (sym known ∙ found) ∙ ap Some (sym c.defect_said.ensures))
-          (λ trees any. (Some name, subst (DocIfOpen row.seq trees) known any, ap Some c.defect_said.ensures)) c.in_ok-found.ensures.looks_up.reads c.in_ok-found.ensures.looks_up.any_rows;
+          (λ trees any. (Some name, subst (DocIfOpen row.seq trees) known any, ap Some c.defect_said.ensures)) c.in_ok-found.ensures.looks_up.now.reads c.in_ok-found.ensures.looks_up.now.any_rows;
     }
 
 -- the entry of a defect that was not rectified is there
@@ -72,10 +72,10 @@ pub returns-in_err-found : goal.returns-in_err-found
 returns-in_err-found g c = record {
   looks_up = record {
     same_reference = search rules;
-    reads = walk_stopped kept_defect (rows_at c.args.aircraft) (λ book r. open_said book c.args.tail.now r) HasEntry (has_value 1 (Int (pos c.args.aircraft))) (OpenSaid c.args.tail.now) _ _ _ _ _ c.loop-row.invariant.walks _ _ _ _ c.from_residual-in_err-found.ensures.1 c.in_err-found.ensures.looks_up.reads;
+    reads = walk_stopped kept_defect (rows_at c.args.aircraft) (λ book r. open_said book c.args.tail.now r) HasEntry (has_value 1 (Int (pos c.args.aircraft))) (OpenSaid c.args.tail.now) _ _ _ _ _ c.loop-row.invariant.walks _ _ _ _ c.from_residual-in_err-found.ensures.1 c.in_err-found.ensures.looks_up.now.reads;
     any_rows = search rules;
     damage =
-        let found = c.in_err-found.ensures.looks_up in
+        let found = c.in_err-found.ensures.looks_up.now in
         told_each kept_defect (rows_at c.args.aircraft) (λ book r. open_said book c.args.tail.now r) HasEntry (has_value 1 (Int (pos c.args.aircraft))) (OpenSaid c.args.tail.now) _ _ _ _ _ c.in-Some.later.now c.in-Some.row.now c.loop-row.invariant.walks c.in-Some.ensures.cases.0 (λ row. Either (DocIfOpenDamage row.seq) (Of table.Defect (HasNoEntry row.seq))) _ found.reads.within (handed (λ _ _. inl) c.from_residual-in_err-found.ensures.1 found.damage);
   };
 }
@@ -86,7 +86,7 @@ returns-in-None-known g c = record {
     same_reference = search rules;
     reads =
         let row = c.in-Some.row.now in
-        let found = c.in_ok-found.ensures.looks_up in
+        let found = c.in_ok-found.ensures.looks_up.now in
         let none : ◌≡◌ {A = Option (Option (List ℕ))} c.in_ok-found.found (Some None) = c.in-Some-found.is ∙ ap Some c.in-None-known.is in
         missing kept_defect (rows_at c.args.aircraft) (λ book r. open_said book c.args.tail.now r) HasEntry (has_value 1 (Int (pos c.args.aircraft))) (OpenSaid c.args.tail.now) _ _ _ _ _ c.in-Some.later.now row c.loop-row.invariant.walks c.in-Some.ensures.cases.0 _ _ (DocIfOpen row.seq) c.in_ok-found.found table.Defect
         (λ book there said. no_entry (is_rectified_at book row.seq) (doc_at book row.seq) there (sym none ∙ said))
@@ -94,7 +94,7 @@ returns-in-None-known g c = record {
     any_rows = search rules;
     damage =
         let row = c.in-Some.row.now in
-        let found = c.in_ok-found.ensures.looks_up in
+        let found = c.in_ok-found.ensures.looks_up.now in
         let none : ◌≡◌ {A = Option (Option (List ℕ))} c.in_ok-found.found (Some None) = c.in-Some-found.is ∙ ap Some c.in-None-known.is in
         told_each kept_defect (rows_at c.args.aircraft) (λ book r. open_said book c.args.tail.now r) HasEntry (has_value 1 (Int (pos c.args.aircraft))) (OpenSaid c.args.tail.now) _ _ _ _ _ c.in-Some.later.now row c.loop-row.invariant.walks c.in-Some.ensures.cases.0 (λ row. Either (DocIfOpenDamage row.seq) (Of table.Defect (HasNoEntry row.seq))) _ found.reads.within
         (told_here table.Defect (λ clean has. (let gone = subst (DocIfOpen row.seq _) none (found.any_rows.found clean has) in inr (refl, (gone.0, has_none (λ r. r.doc) gone.1)))));
@@ -115,7 +115,7 @@ pub returns-in_err-push-in-Some-known : goal.returns-in_err-push-in-Some-known
 returns-in_err-push-in-Some-known g c = record {
   looks_up = record {
     same_reference = search rules;
-    reads = walk_starved kept_defect (rows_at c.args.aircraft) (λ book r. open_said book c.args.tail.now r) HasEntry (has_value 1 (Int (pos c.args.aircraft))) (OpenSaid c.args.tail.now) _ _ _ _ _ c.in-Some.later.now c.in-Some.row.now c.loop-row.invariant.walks c.in-Some.ensures.cases.0 _ _ c.in_ok-found.found _ c.from_residual-in_err-push-in-Some-known.ensures.1 c.in_ok-found.ensures.looks_up.reads;
+    reads = walk_starved kept_defect (rows_at c.args.aircraft) (λ book r. open_said book c.args.tail.now r) HasEntry (has_value 1 (Int (pos c.args.aircraft))) (OpenSaid c.args.tail.now) _ _ _ _ _ c.in-Some.later.now c.in-Some.row.now c.loop-row.invariant.walks c.in-Some.ensures.cases.0 _ _ c.in_ok-found.found _ c.from_residual-in_err-push-in-Some-known.ensures.1 c.in_ok-found.ensures.looks_up.now.reads;
     any_rows = search rules;
     damage = search rules;
   };

@@ -11,8 +11,8 @@ returns-in-Some g c = record {
       (λ book v b both. both.1 ∙ open_found book c.args.tail.now c.in-Some.number b (sym both.0 ∙ c.in-Some.is))
       (λ _ v both. some_given c.in-Some.is both.0 both.1)
       (λ _ _ it. inr (_, by_first (AircraftNumber _) c.in-Some.is it.0, it.1))
-      (behind c.in_ok-found.ensures.looks_up c.defects_left.ensures.looks_up);
+      (behind c.in_ok-found.ensures.looks_up.now c.defects_left.ensures.looks_up);
 }
 
 pub returns-in-None : goal.returns-in-None
-returns-in-None g c = record { looks_up = answers c.in_ok-found.ensures.looks_up (λ book b found. c.new.ensures.items ∙ sym (none_open book c.args.tail.now b (sym found ∙ c.in-None.is))) (λ _ found. none_given c.in-None.is found c.new.ensures.items) }
+returns-in-None g c = record { looks_up = answers c.in_ok-found.ensures.looks_up.now (λ book b found. c.new.ensures.items ∙ sym (none_open book c.args.tail.now b (sym found ∙ c.in-None.is))) (λ _ found. none_given c.in-None.is found c.new.ensures.items) }

@@ -18,7 +18,7 @@ aircraft_in = option_map (λ (row : SpanRow). row.aircraft)
 pub returns-in-Some-2 : goal.returns-in-Some-2
 returns-in-Some-2 g c = record {
   looks_up =
-      answers (behind c.in_ok-found.ensures.looks_up c.in_ok-tail-in-Some.ensures.looks_up)
+      answers (behind c.in_ok-found.ensures.looks_up c.in_ok-tail-in-Some.ensures.looks_up.now)
       (λ book b both.
       let tail = sym c.in-Some-2.is ∙ both.1 ∙ sym (ap (λ o. option_and_then (tail_at book) (aircraft_in o)) c.in-Some.is) ∙ both.0.number.tail in
       one_place (fitted book c.args.serial.now) c.in-Some-2.tail c.in-Some.row.position tail (sym (ap (option_map (λ (row : SpanRow). row.position)) c.in-Some.is) ∙ both.0.position))
@@ -31,7 +31,7 @@ returns-in-None g c = record { looks_up = answers c.in_ok-found.ensures.looks_up
 pub returns-in-None-2 : goal.returns-in-None-2
 returns-in-None-2 g c = record {
   looks_up =
-      refuses table.Span2 (behind c.in_ok-found.ensures.looks_up c.in_ok-tail-in-Some.ensures.looks_up)
+      refuses table.Span2 (behind c.in_ok-found.ensures.looks_up c.in_ok-tail-in-Some.ensures.looks_up.now)
       (λ book b both.
       let at = ap aircraft_in c.in-Some.is in
       let tail = sym (ap (option_and_then (tail_at book)) at) ∙ both.0.number.tail in
@@ -42,4 +42,4 @@ returns-in-None-2 g c = record {
 }
 
 pub returns-in_err-tail-in-Some : goal.returns-in_err-tail-in-Some
-returns-in_err-tail-in-Some g c = record { looks_up = hands c.from_residual-in_err-tail-in-Some.ensures.1 (λ _ trees it. inr (_, number_spanned trees c.args.serial.now _ (by_first (SpanFitted _) c.in-Some.is it.0), (inl it.1))) (behind c.in_ok-found.ensures.looks_up c.in_err-tail-in-Some.ensures.looks_up) }
+returns-in_err-tail-in-Some g c = record { looks_up = hands c.from_residual-in_err-tail-in-Some.ensures.1 (λ _ trees it. inr (_, number_spanned trees c.args.serial.now _ (by_first (SpanFitted _) c.in-Some.is it.0), (inl it.1))) (behind c.in_ok-found.ensures.looks_up c.in_err-tail-in-Some.ensures.looks_up.now) }

@@ -16,7 +16,7 @@ pub returns-in_ok-rows-in-Some : goal.returns-in_ok-rows-in-Some
 returns-in_ok-rows-in-Some g c = record {
   looks_up =
       let made = c.span_in.ensures ∙ ap (λ rows. slice_get rows 0) c.deref.ensures.value in
-      answers (behind c.in_ok-found.ensures.looks_up (chosen spans c.in_ok-rows-in-Some.ensures.same_reference (open_spans_of _ c.in_ok-rows-in-Some.ensures.reads) c.in_ok-rows-in-Some.ensures.reads))
+      answers (behind c.in_ok-found.ensures.looks_up.now (chosen spans c.in_ok-rows-in-Some.ensures.same_reference (open_spans_of _ c.in_ok-rows-in-Some.ensures.reads) c.in_ok-rows-in-Some.ensures.reads))
       (λ book b both.
       let number = sym both.0 ∙ c.in-Some.is in
       let e = made ∙ ap (λ rows. slice_get rows 0) both.1 in
@@ -29,7 +29,7 @@ returns-in_ok-rows-in-Some g c = record {
 }
 
 pub returns-in-None : goal.returns-in-None
-returns-in-None g c = record { looks_up = answers c.in_ok-found.ensures.looks_up (λ book b found. let none = fitted_nowhere book b c.args.serial.now (sym found ∙ c.in-None.is) in record { number = record { tail = sym none; there = ap is_some (sym none) }; position = nowhere (fitted book c.args.serial.now) none }) (λ _ found. none_given c.in-None.is found refl) }
+returns-in-None g c = record { looks_up = answers c.in_ok-found.ensures.looks_up.now (λ book b found. let none = fitted_nowhere book b c.args.serial.now (sym found ∙ c.in-None.is) in record { number = record { tail = sym none; there = ap is_some (sym none) }; position = nowhere (fitted book c.args.serial.now) none }) (λ _ found. none_given c.in-None.is found refl) }
 
 pub returns-in_err-rows-in-Some : goal.returns-in_err-rows-in-Some
-returns-in_err-rows-in-Some g c = record { looks_up = hands c.from_residual-in_err-rows-in-Some.ensures.1 (λ _ _ it. inr (_, by_first (ComponentNumber _) c.in-Some.is it.0, it.1)) (behind c.in_ok-found.ensures.looks_up (chosen spans c.in_err-rows-in-Some.ensures.same_reference (open_spans_of _ c.in_err-rows-in-Some.ensures.reads) c.in_err-rows-in-Some.ensures.reads)) }
+returns-in_err-rows-in-Some g c = record { looks_up = hands c.from_residual-in_err-rows-in-Some.ensures.1 (λ _ _ it. inr (_, by_first (ComponentNumber _) c.in-Some.is it.0, it.1)) (behind c.in_ok-found.ensures.looks_up.now (chosen spans c.in_err-rows-in-Some.ensures.same_reference (open_spans_of _ c.in_err-rows-in-Some.ensures.reads) c.in_err-rows-in-Some.ensures.reads)) }

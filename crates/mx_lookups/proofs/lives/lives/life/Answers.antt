@@ -15,7 +15,7 @@ pub returns-in-Some-life_in : goal.returns-in-Some-life_in
 returns-in-Some-life_in g c = record {
   looks_up =
       let made = c.life_in.ensures ∙ ap life_in c.deref.ensures.value in
-      answers (behind c.in_ok-found.ensures.looks_up (chosen totals c.in_ok-rows-in-Some.ensures.same_reference (totals_of _ c.in_ok-rows-in-Some.ensures.reads) c.in_ok-rows-in-Some.ensures.reads))
+      answers (behind c.in_ok-found.ensures.looks_up.now (chosen totals c.in_ok-rows-in-Some.ensures.same_reference (totals_of _ c.in_ok-rows-in-Some.ensures.reads) c.in_ok-rows-in-Some.ensures.reads))
       (λ book b both. sym c.in-Some-life_in.is ∙ made ∙ ap life_in both.1 ∙ life_found book c.args.item.now c.in-Some.number b (sym both.0 ∙ c.in-Some.is))
       (λ _ both. some_given c.in-Some.is both.0 (refl, (_, both.1, sym c.in-Some-life_in.is ∙ made)));
 }
@@ -24,7 +24,7 @@ pub returns-in-Some : goal.returns-in-Some
 returns-in-Some g c = record {
   looks_up =
       let made = c.life_in.ensures ∙ ap life_in c.deref.ensures.value in
-      refuses table.Total2 (behind c.in_ok-found.ensures.looks_up (chosen totals c.in_ok-rows-in-Some.ensures.same_reference (totals_of _ c.in_ok-rows-in-Some.ensures.reads) c.in_ok-rows-in-Some.ensures.reads))
+      refuses table.Total2 (behind c.in_ok-found.ensures.looks_up.now (chosen totals c.in_ok-rows-in-Some.ensures.same_reference (totals_of _ c.in_ok-rows-in-Some.ensures.reads) c.in_ok-rows-in-Some.ensures.reads))
       (λ book b both.
       let number = sym both.0 ∙ c.in-Some.is in
       let e = ap is_some (sym c.in-None-life_in.is ∙ made ∙ ap life_in both.1 ∙ life_found book c.args.item.now c.in-Some.number b number) ∙ alive book c.args.item.now c.in-Some.number number in
@@ -34,7 +34,7 @@ returns-in-Some g c = record {
 }
 
 pub returns : goal.returns
-returns g c = record { looks_up = answers c.in_ok-found.ensures.looks_up (λ book b found. sym (no_life book c.args.item.now (sym found ∙ c.in-None.is))) (λ _ found. none_given c.in-None.is found refl) }
+returns g c = record { looks_up = answers c.in_ok-found.ensures.looks_up.now (λ book b found. sym (no_life book c.args.item.now (sym found ∙ c.in-None.is))) (λ _ found. none_given c.in-None.is found refl) }
 
 pub returns-in_err-rows-in-Some : goal.returns-in_err-rows-in-Some
-returns-in_err-rows-in-Some g c = record { looks_up = hands c.from_residual-in_err-rows-in-Some.ensures.1 (λ _ _ it. inr (_, by_first (ItemNumber _) c.in-Some.is it.0, (inl it.1))) (behind c.in_ok-found.ensures.looks_up (chosen totals c.in_err-rows-in-Some.ensures.same_reference (totals_of _ c.in_err-rows-in-Some.ensures.reads) c.in_err-rows-in-Some.ensures.reads)) }
+returns-in_err-rows-in-Some g c = record { looks_up = hands c.from_residual-in_err-rows-in-Some.ensures.1 (λ _ _ it. inr (_, by_first (ItemNumber _) c.in-Some.is it.0, (inl it.1))) (behind c.in_ok-found.ensures.looks_up.now (chosen totals c.in_err-rows-in-Some.ensures.same_reference (totals_of _ c.in_err-rows-in-Some.ensures.reads) c.in_err-rows-in-Some.ensures.reads)) }

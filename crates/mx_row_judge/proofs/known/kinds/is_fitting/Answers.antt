@@ -13,7 +13,7 @@ use Rattle.mx_row_judge.specs.known.Known.{Began, ByNumber}
 use Rattle.mx_row_judge.proofs.known.kinds.is_fitting.Goals as goal
 
 pub returns-in_err-rows : goal.returns-in_err-rows
-returns-in_err-rows g c = record { looks_up = hands c.from_residual-in_err-rows.ensures.1 (λ _ _ it. inr (inr it.1.1)) (behind c.in_ok-component.ensures.looks_up (behind c.in_ok-aircraft.ensures.looks_up (chosen spans c.in_err-rows.ensures.same_reference (spans_of_fitting _ c.in_err-rows.ensures.reads) c.in_err-rows.ensures.reads))) }
+returns-in_err-rows g c = record { looks_up = hands c.from_residual-in_err-rows.ensures.1 (λ _ _ it. inr (inr it.1.1)) (behind c.in_ok-component.ensures.looks_up.now (behind c.in_ok-aircraft.ensures.looks_up.now (chosen spans c.in_err-rows.ensures.same_reference (spans_of_fitting _ c.in_err-rows.ensures.reads) c.in_err-rows.ensures.reads))) }
 
 pub returns : goal.returns
 returns g c = record {
@@ -21,7 +21,7 @@ returns g c = record {
       let n = c.args.seq in
       let f = c.args.fitting in
       let made = c.begins_in.ensures ∙ ap (list_any (begins_with n c.or_zero.result c.or_zero-2.result f)) c.deref.ensures.value in
-      answers (behind c.in_ok-component.ensures.looks_up (behind c.in_ok-aircraft.ensures.looks_up (chosen spans c.in_ok-rows.ensures.same_reference (spans_of_fitting _ c.in_ok-rows.ensures.reads) c.in_ok-rows.ensures.reads)))
+      answers (behind c.in_ok-component.ensures.looks_up.now (behind c.in_ok-aircraft.ensures.looks_up.now (chosen spans c.in_ok-rows.ensures.same_reference (spans_of_fitting _ c.in_ok-rows.ensures.reads) c.in_ok-rows.ensures.reads)))
       (λ book b all doc shape number.
       fitting_by_spans book doc f n b shape (entry_is book doc ∙ number)
       ∙ ap (λ same. Some (n, same)) (sym (made
@@ -31,4 +31,4 @@ returns g c = record {
 }
 
 pub returns-in_err-aircraft : goal.returns-in_err-aircraft
-returns-in_err-aircraft g c = record { looks_up = hands c.from_residual-in_err-aircraft.ensures.1 (λ _ _ it. inr (inl it.1)) (behind c.in_ok-component.ensures.looks_up c.in_err-aircraft.ensures.looks_up) }
+returns-in_err-aircraft g c = record { looks_up = hands c.from_residual-in_err-aircraft.ensures.1 (λ _ _ it. inr (inl it.1)) (behind c.in_ok-component.ensures.looks_up.now c.in_err-aircraft.ensures.looks_up.now) }

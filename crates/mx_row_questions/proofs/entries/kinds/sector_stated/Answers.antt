@@ -9,7 +9,7 @@ pub returns-in_err-rows-clause-reads : goal.returns-in_err-rows-clause-reads
 returns-in_err-rows-clause-reads g c = unread (sector_kind c.args.seq) c.from_residual.ensures.1 c.in_err-rows.ensures.reads
 
 pub returns-in_err-named-clause-reads : goal.returns-in_err-named-clause-reads
-returns-in_err-named-clause-reads g c = unnamed (sector_kind c.args.seq) _ c.in_ok-rows.ensures.reads c.from_residual-in_err-named.ensures.1 c.in_err-named.ensures.looks_up.reads
+returns-in_err-named-clause-reads g c = unnamed (sector_kind c.args.seq) _ c.in_ok-rows.ensures.reads c.from_residual-in_err-named.ensures.1 c.in_err-named.ensures.looks_up.now.reads
 
 pub returns-in_default-clause-reads : goal.returns-in_default-clause-reads
 returns-in_default-clause-reads g c = none_said (sector_kind c.args.seq) (first_sector c.args.seq _ c.deref.ensures.value c.in_default.ensures.value) c.in_ok-rows.ensures.reads
@@ -20,19 +20,19 @@ returns-in_default-clause-any_rows g c = none_said-any (sector_kind c.args.seq) 
 pub returns-in-Some-named-clause-reads : goal.returns-in-Some-named-clause-reads
 returns-in-Some-named-clause-reads g c =
     let row = c.in-Some.row.now.sector in
-    it_said (sector_kind c.args.seq) _ c.in_ok-rows.ensures.reads row _ (first_sector c.args.seq _ c.deref.ensures.value c.in-Some.ensures.value) (λ book named. ap Some c.body_of_sector.ensures ∙ ap (option_map (sector_said row)) (sym c.in-Some-named.is ∙ named)) c.in_ok-named.ensures.looks_up.reads
+    it_said (sector_kind c.args.seq) _ c.in_ok-rows.ensures.reads row _ (first_sector c.args.seq _ c.deref.ensures.value c.in-Some.ensures.value) (λ book named. ap Some c.body_of_sector.ensures ∙ ap (option_map (sector_said row)) (sym c.in-Some-named.is ∙ named)) c.in_ok-named.ensures.looks_up.now.reads
 
 pub returns-in-Some-named-clause-any_rows : goal.returns-in-Some-named-clause-any_rows
 returns-in-Some-named-clause-any_rows g c =
     let row = c.in-Some.row.now.sector in
-    it_said-any (sector_kind c.args.seq) _ c.in_ok-rows.ensures.reads row _ _ (first_sector c.args.seq _ c.deref.ensures.value c.in-Some.ensures.value) (λ trees named. (_, named, ap Some c.body_of_sector.ensures ∙ ap (option_map (sector_said row)) (sym c.in-Some-named.is))) c.in_ok-named.ensures.looks_up.reads c.in_ok-named.ensures.looks_up.any_rows
+    it_said-any (sector_kind c.args.seq) _ c.in_ok-rows.ensures.reads row _ _ (first_sector c.args.seq _ c.deref.ensures.value c.in-Some.ensures.value) (λ trees named. (_, named, ap Some c.body_of_sector.ensures ∙ ap (option_map (sector_said row)) (sym c.in-Some-named.is))) c.in_ok-named.ensures.looks_up.now.reads c.in_ok-named.ensures.looks_up.now.any_rows
 
 pub returns-clause-reads : goal.returns-clause-reads
 returns-clause-reads g c =
     let row = c.in-Some.row.now.sector in
-    it_said (sector_kind c.args.seq) _ c.in_ok-rows.ensures.reads row None (first_sector c.args.seq _ c.deref.ensures.value c.in-Some.ensures.value) (λ book named. ap (option_map (sector_said row)) (sym c.in-None.is ∙ named)) c.in_ok-named.ensures.looks_up.reads
+    it_said (sector_kind c.args.seq) _ c.in_ok-rows.ensures.reads row None (first_sector c.args.seq _ c.deref.ensures.value c.in-Some.ensures.value) (λ book named. ap (option_map (sector_said row)) (sym c.in-None.is ∙ named)) c.in_ok-named.ensures.looks_up.now.reads
 
 pub returns-clause-any_rows : goal.returns-clause-any_rows
 returns-clause-any_rows g c =
     let row = c.in-Some.row.now.sector in
-    it_said-any (sector_kind c.args.seq) _ c.in_ok-rows.ensures.reads row None _ (first_sector c.args.seq _ c.deref.ensures.value c.in-Some.ensures.value) (λ trees named. (_, named, ap (option_map (sector_said row)) (sym c.in-None.is))) c.in_ok-named.ensures.looks_up.reads c.in_ok-named.ensures.looks_up.any_rows
+    it_said-any (sector_kind c.args.seq) _ c.in_ok-rows.ensures.reads row None _ (first_sector c.args.seq _ c.deref.ensures.value c.in-Some.ensures.value) (λ trees named. (_, named, ap (option_map (sector_said row)) (sym c.in-None.is))) c.in_ok-named.ensures.looks_up.now.reads c.in_ok-named.ensures.looks_up.now.any_rows
