@@ -2,7 +2,6 @@
 ghost use Rattle.std.specs.Prelude.{◌≡◌, ℕ, filter, nat_eq, not};
 ghost use Rattle.std.specs.HashSet.{contains};
 ghost use Rattle.std.specs.List.{filter_map};
-ghost use Rattle.mx_base.specs.Settled.{settled};
 ghost use Rattle.mx_base.specs.declared.rows.rows.Deferral3Row.{Deferral3Row};
 ghost use Rattle.mx_book.specs.Defect.{defect, defects, is_rectified, open_defects};
 ghost use Rattle.mx_registers.specs.late.Found.{found_rows};
@@ -10,6 +9,7 @@ ghost use Rattle.mx_row_rules.specs.found.Defects.{is_rectified_at, open_said};
 ghost use Rattle.mx_lookups.specs.numbers.Given.{AreRectified};
 ghost use Rattle.mx_lookups.specs.numbers.Later.{AllOpenDefectsFound, AllOpenFoundDamage, DefectFound, DefectFoundDamage, DefectsFoundAt, DefectsFoundButDamage, DefectsFoundDamage, OpenDefectsFound, OpenFoundDamage};
 ghost use Rattle.mx_lookups.specs.numbers.LookUp.{IsLookUpAt};
+ghost use Rattle.mx_lookups.specs.numbers.Reads.{later_point};
 
 use crate::fleet::defect_of_row;
 use crate::lists::doc_if_open;
@@ -32,7 +32,7 @@ pub fn defect<S: Alter>(
     tx: &mut Transaction<'_, S>,
     doc: &Doc,
 ) -> Result<Option<Defect>, TableFault>
-    ensures looks_up { IsLookUpAt (settled 3) S.Store
+    ensures looks_up { IsLookUpAt later_point S.Store
         (λ book found. found ≡ defect book doc.now)
         (DefectFound doc.now)
         (DefectFoundDamage doc.now)
@@ -62,7 +62,7 @@ fn defects_left<S: Alter>(
     tail: &Tail,
     aircraft: u32,
 ) -> Result<Vec<Defect>, TableFault>
-    ensures looks_up { IsLookUpAt (settled 3) S.Store
+    ensures looks_up { IsLookUpAt later_point S.Store
         (λ book defects. defects.items ≡ filter_map (λ (row : Deferral3Row). open_said book tail.now
         row.deferral) (filter (λ (row : Deferral3Row). nat_eq row.deferral.aircraft aircraft)
         (found_rows book)))
@@ -96,7 +96,7 @@ pub fn open_defects<S: Alter>(
     tx: &mut Transaction<'_, S>,
     tail: &Tail,
 ) -> Result<Vec<Defect>, TableFault>
-    ensures looks_up { IsLookUpAt (settled 3) S.Store
+    ensures looks_up { IsLookUpAt later_point S.Store
         (λ book defects. defects.items ≡ open_defects book tail.now)
         (λ trees defects. OpenDefectsFound tail.now trees defects.items)
         (OpenFoundDamage tail.now)
@@ -116,7 +116,7 @@ fn defects_but<S: Alter>(
     tx: &mut Transaction<'_, S>,
     rectified: &HashSet<u32>,
 ) -> Result<Vec<Defect>, TableFault>
-    ensures looks_up { IsLookUpAt (settled 3) S.Store
+    ensures looks_up { IsLookUpAt later_point S.Store
         (λ book found. ((n : ℕ) → contains nat_eq rectified.now n ≡ is_rectified_at book n)
         → found.items ≡ filter (λ d. not (is_rectified book d.doc)) (defects book))
         (λ trees found. AreRectified rectified.now trees → AllOpenDefectsFound trees found.items)
@@ -147,7 +147,7 @@ pub fn all_open_defects<S: Alter>(
     alloc: Global,
     tx: &mut Transaction<'_, S>,
 ) -> Result<Vec<Defect>, TableFault>
-    ensures looks_up { IsLookUpAt (settled 3) S.Store
+    ensures looks_up { IsLookUpAt later_point S.Store
         (λ book found. found.items ≡ filter (λ d. not (is_rectified book d.doc)) (defects book))
         (λ trees found. AllOpenDefectsFound trees found.items)
         AllOpenFoundDamage

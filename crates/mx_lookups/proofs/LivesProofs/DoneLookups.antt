@@ -19,7 +19,6 @@ use Rattle.sqlite.specs.declared.types.Value.{Value}
 use Rattle.sqlite.specs.declared.types.Value.TheVariants.{Int, Text}
 use Rattle.sqlite_keyed.proofs.ListLemmas.{filter-map, filter_same, IsPermutation-filter}
 use Rattle.sqlite_value.proofs.OrderLemmas.{value_cmp-Int, value_cmp_total}
-use Rattle.mx_base.specs.Settled.{settled}
 use Rattle.mx_base.specs.declared.amounts.Base.{Base}
 use Rattle.mx_base.specs.declared.rows.rows.DoneRow.{DoneRow}
 use Rattle.mx_base.specs.rows.Rising.{IsFrom}
@@ -48,7 +47,7 @@ use Rattle.mx_row_rules.proofs.FoundProofs.LastLemmas.{last_is}
 use Rattle.mx_book_tables.specs.stands.Stands.{HasRowsAt}
 use Rattle.mx_book_tables.proofs.StandsProofs.RowLemmas.{rows_once}
 use Rattle.mx_lookups.specs.numbers.Given.{is_of}
-use Rattle.mx_lookups.specs.numbers.Reads.{ReadsAt}
+use Rattle.mx_lookups.specs.numbers.Reads.{ReadsAt, later_point}
 use Rattle.mx_lookups.proofs.NumbersProofs.ChosenLemmas.{no_other}
 use Rattle.mx_lookups.proofs.NumbersProofs.LaterTables.{done_fit, done_given, done_in}
 use Rattle.mx_lookups.proofs.NumbersProofs.LookupLemmas.{chosen_read, number_is, text_is}
@@ -104,7 +103,7 @@ module _ (n : ℕ) (id : List ℕ) where
   of_is row = ap₂ ◌&&◌ (number_is row.item n) (text_is row.task id)
 
   -- what was chosen are the rows of the task of the item with the number, in their order
-  pub done_is : (trees : Trees) (book : List Entry) → HasRowsAt (settled 3) trees book → (item : Item) → item_at book n ≡ Some item → (xs : List DoneRow) → AreFirst None kept_done3.order (table_named kept_done3.name) (is_of n id) trees (map kept_done3.as_cells xs) → All kept_done3.Fits xs
+  pub done_is : (trees : Trees) (book : List Entry) → HasRowsAt later_point trees book → (item : Item) → item_at book n ≡ Some item → (xs : List DoneRow) → AreFirst None kept_done3.order (table_named kept_done3.name) (is_of n id) trees (map kept_done3.as_cells xs) → All kept_done3.Fits xs
       → xs ≡ done_rows_of book n item id
   done_is trees book has item at xs are fits =
       let passes = λ (x : DoneRow). is_of n id (kept_done3.as_cells x) in
@@ -122,7 +121,7 @@ module _ (n : ℕ) (id : List ℕ) where
       sym (sorted_once place (line_key 1 0) 0 (line_key (length book + 1) 0) (done_rows_of book n item id) xs (rows_rise book n item id has.is_book) (ascending xs fits each sorted) (subst (λ l. IsPermutation l xs) of_task there))
 
   pub done_by_task : (old new : State) (result : Result (Vec DoneRow Global) TableFault) → ReadsFirst kept_done3 None kept_done3.order (is_of n id) (λ rows. rows.items) old new result
-      → ReadsAt (settled 3) (λ book rows. (item : Item) → item_at book n ≡ Some item → rows.items ≡ done_rows_of book n item id) old new result
+      → ReadsAt later_point (λ book rows. (item : Item) → item_at book n ≡ Some item → rows.items ≡ done_rows_of book n item id) old new result
   done_by_task =
       chosen_read kept_done3 done3_lawful done_in (λ row is. is) (is_of n id) (λ (v : Vec DoneRow Global). v.items) (λ book v. (item : Item) → item_at book n ≡ Some item → v.items ≡ done_rows_of book n item id)
       (λ trees book has v are fits item at. done_is trees book has item at v.items are fits)

@@ -9,7 +9,6 @@ use Rattle.sqlite.specs.State.{State, HasCleanDisk}
 use Rattle.sqlite.specs.Store.{Ghosts}
 use Rattle.sqlite.specs.Tree.{Trees}
 use Rattle.sqlite.specs.declared.transaction.Transaction.{Transaction}
-use Rattle.mx_base.specs.Settled.{settled}
 use Rattle.mx_base.specs.declared.point.Point.{Point}
 use Rattle.mx_book.specs.Book.{IsBook}
 use Rattle.mx_book.specs.commands.Act.{Entry}
@@ -22,7 +21,7 @@ use Rattle.mx_table_rows.specs.chosen.Calls.{ReadsFirst}
 use Rattle.mx_lookups.specs.numbers.AnyRows.{AreChosen, GivesBy, GivesFirst, ReadsAnyAt}
 use Rattle.mx_lookups.specs.numbers.Damage.{IsDamaged}
 use Rattle.mx_lookups.specs.numbers.LookUp.{IsLookUpAt, LooksUp}
-use Rattle.mx_lookups.specs.numbers.Reads.{HasTablesOfRowsAt, IsRowsPoint, ReadsAt, rows_point}
+use Rattle.mx_lookups.specs.numbers.Reads.{HasTablesOfRowsAt, IsRowsPoint, ReadsAt, later_point, rows_point}
 use Rattle.mx_lookups.specs.numbers.Told.{Damage, TellsDamageAt, UnreadFirst}
 use Rattle.mx_lookups.proofs.NumbersProofs.AnyLemmas.{any_so, silent}
 use Rattle.mx_lookups.proofs.NumbersProofs.ReadLemmas.{follows, map_ok, no_memory, reads_then, refused, stopped, told}
@@ -126,7 +125,7 @@ module _ {S : Type 0} {at : Point} {g : Ghosts S} where
 
 -- what is looked up alike at each point is so now and at layout 3
 pub at_points : {S V : Type 0} {g : Ghosts S} {P : List Entry → V → Type 0} {A : Trees → V → Type 0} {Why : Damage} {old new : Transaction S} {result : Result V TableFault} → ((at : Point) → IsRowsPoint at → IsLookUpAt at g P A Why old new result) → LooksUp g P A Why old new result
-at_points so = record { now = so rows_point now; later = so (settled 3) later }
+at_points so = record { now = so rows_point now; later = so later_point later }
 
 -- and at each such point
 pub at_point : {S V : Type 0} {g : Ghosts S} {P : List Entry → V → Type 0} {A : Trees → V → Type 0} {Why : Damage} {old new : Transaction S} {result : Result V TableFault} → LooksUp g P A Why old new result → {at : Point} → IsRowsPoint at → IsLookUpAt at g P A Why old new result

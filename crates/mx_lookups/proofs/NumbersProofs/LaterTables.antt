@@ -3,7 +3,6 @@ use Rattle.std.proofs.Common.{◌≡◌, ℕ, ◌+◌, true, List, [], ◌∷◌
 use Rattle.std.specs.List.{list_all}
 use Rattle.std.specs.List.Sorted.{IsPermutation}
 use Rattle.sqlite.specs.Tree.{Trees}
-use Rattle.mx_base.specs.Settled.{settled}
 use Rattle.mx_base.specs.declared.rows.rows.Deferral3Row.{Deferral3Row}
 use Rattle.mx_base.specs.declared.rows.rows.DeferralRow.{DeferralRow}
 use Rattle.mx_base.specs.rows.Rising.{IsRising}
@@ -21,6 +20,7 @@ use Rattle.mx_layout.specs.kept.Cells.{kept_defect3, kept_done3}
 use Rattle.mx_book_tables.specs.stands.Stands.{HasRowsAt}
 use Rattle.mx_book_tables.proofs.StandsProofs.FamilyLemmas.{Rise, facts}
 use Rattle.mx_lookups.proofs.NumbersProofs.TableLemmas.{IsInEachAt, IsTableAt, in_each, later, table_is, whole_at}
+use Rattle.mx_lookups.specs.numbers.Reads.{later_point}
 
 -- ── deferrals ──
 
@@ -36,18 +36,18 @@ found_rise book shaped =
     let number : DeferralRow → ℕ = λ row. row.seq in
     (1, high, rises_back (λ (row : Deferral3Row). row.deferral) number 1 high (found_rows book) (subst (λ rows. IsRising number 1 rows high) (sym (found_of_deferrals book)) (deferral_rows-rising book shaped)))
 
-pub deferrals_found : IsTableAt (settled 3) kept_defect3 found_rows
+pub deferrals_found : IsTableAt later_point kept_defect3 found_rows
 deferrals_found = table_is table.Defect3 kept_defect3 deferrals_3 (facts table.Defect3) (λ row is. is) later refl (λ book is. found_rise book is.shaped) (λ trees book has. has.fit table.Defect3 refl) (λ trees book has. has.tables table.Defect3 refl)
 
 -- ── accomplishments ──
 
 -- They are not in the order of the key of the table, which several of one item have; so less is known of them than of other tables.
-pub done_in : IsInEachAt (settled 3) kept_done3
+pub done_in : IsInEachAt later_point kept_done3
 done_in = in_each table.Done3 kept_done3 done_3 (facts table.Done3) (λ row is. is) later refl
 
-pub done_fit : (trees : Trees) (book : List Entry) → HasRowsAt (settled 3) trees book → All kept_done3.Fits (done_rows book)
+pub done_fit : (trees : Trees) (book : List Entry) → HasRowsAt later_point trees book → All kept_done3.Fits (done_rows book)
 done_fit trees book has = subst (All kept_done3.Fits) (whole_at table.Done3 kept_done3 done_3 (facts table.Done3) (λ row is. is) later refl book) (has.fit table.Done3 refl)
 
-pub done_given : (trees : Trees) (book : List Entry) → HasRowsAt (settled 3) trees book → IsPermutation (map kept_done3.as_cells (done_rows book)) (rows_in (table_named kept_done3.name) trees)
+pub done_given : (trees : Trees) (book : List Entry) → HasRowsAt later_point trees book → IsPermutation (map kept_done3.as_cells (done_rows book)) (rows_in (table_named kept_done3.name) trees)
 done_given trees book has =
     subst (λ xs. IsPermutation (map kept_done3.as_cells xs) (rows_in (table_named kept_done3.name) trees)) (whole_at table.Done3 kept_done3 done_3 (facts table.Done3) (λ row is. is) later refl book) (has.tables table.Done3 refl)

@@ -4,7 +4,6 @@ use Rattle.std.specs.List.Sorted.{IsPermutation}
 use Rattle.sqlite.specs.Order.{Row}
 use Rattle.sqlite.specs.Schema.{Schema}
 use Rattle.sqlite.specs.Tree.{Trees}
-use Rattle.mx_base.specs.Settled.{settled}
 use Rattle.mx_base.specs.declared.point.Point.{Point}
 use Rattle.mx_book.specs.commands.Act.{Entry}
 use Rattle.mx_book.specs.Book.{IsBook}
@@ -27,7 +26,7 @@ use Rattle.mx_book_tables.specs.stands.Stands.{HasRowsAt}
 use Rattle.mx_book_tables.proofs.StandsProofs.PointLemmas.{file_is_up_to_3, newest_is_layout}
 use Rattle.mx_book_tables.proofs.StandsProofs.FamilyLemmas.{AreFacts, Rise, facts, register_facts}
 use Rattle.mx_lookups.specs.numbers.Keeping.{KeepsRows}
-use Rattle.mx_lookups.specs.numbers.Reads.{HasTablesOfRows, HasTablesOfRowsAt, IsRowsPoint, rows_point}
+use Rattle.mx_lookups.specs.numbers.Reads.{HasTablesOfRows, HasTablesOfRowsAt, IsRowsPoint, later_point, rows_point}
 
 -- ── the points ──
 
@@ -36,17 +35,17 @@ pub now : IsRowsPoint rows_point
 now = inl refl
 
 -- and at layout 3
-pub later : IsRowsPoint (settled 3)
+pub later : IsRowsPoint later_point
 later = inr refl
 
 -- what holds at both layouts holds at each such point
-pub at_each : (P : Point → Type 0) → P (settled 2) → P (settled 3) → {at : Point} → IsRowsPoint at → P at
+pub at_each : (P : Point → Type 0) → P rows_point → P later_point → {at : Point} → IsRowsPoint at → P at
 at_each P two three (inl is) = subst P (sym is) two
 at_each P two three (inr is) = subst P (sym is) three
 
 -- a file is up to layout 3 there
 up_to_3 : {at : Point} → IsRowsPoint at → IsUpTo 3 at
-up_to_3 = at_each (IsUpTo 3) (file_is_up_to_3 (settled 2) (inr refl)) (inr refl)
+up_to_3 = at_each (IsUpTo 3) (file_is_up_to_3 rows_point (inr refl)) (inr refl)
 
 -- the schema is one whose rows are looked up where it has the tables of a file there
 pub tables_of_rows : (schema : Schema) → HasTablesAt rows_point schema → HasTablesOfRows schema
@@ -110,7 +109,7 @@ module _ {X : Type 0} (name : TableName) (k : Kept X) (line : Line X) (fact : Ar
 
 -- ── the tables that both layouts have ──
 
-there_at : {X : Type 0} (line : Line X) → is_table_at line (settled 2) ≡ true → is_table_at line (settled 3) ≡ true → {at : Point} → IsRowsPoint at → is_table_at line at ≡ true
+there_at : {X : Type 0} (line : Line X) → is_table_at line rows_point ≡ true → is_table_at line later_point ≡ true → {at : Point} → IsRowsPoint at → is_table_at line at ≡ true
 there_at line two three = at_each (λ at. is_table_at line at ≡ true) two three
 
 pub entries_at : {at : Point} → IsRowsPoint at → IsTableAt at kept_entry entry_rows

@@ -7,7 +7,6 @@ use Rattle.sqlite.specs.Order.{Row}
 use Rattle.sqlite_sql.specs.Ops.{binary}
 use Rattle.sqlite_value.specs.Order.{value_cmp}
 use lib.Ieee.{is_nan, lt}
-use Rattle.mx_base.specs.Settled.{settled}
 use Rattle.mx_base.specs.declared.rows.rows.TaskRow.{TaskRow}
 use Rattle.mx_book.specs.declared.found.Found.TheVariants as founds
 use Rattle.mx_book.proofs.Worked.{abcd, at, used}
@@ -19,7 +18,7 @@ use Rattle.mx_layout.specs.TableName.{TableName}
 use Rattle.mx_lookups.specs.numbers.Damage.{Need, is_deferral, needs}
 use Rattle.mx_lookups.specs.numbers.Given.{is_of}
 use Rattle.mx_lookups.specs.numbers.InForce.{born_as, rows_in_force}
-use Rattle.mx_lookups.specs.numbers.Reads.{IsRowsPoint, rows_point}
+use Rattle.mx_lookups.specs.numbers.Reads.{IsRowsPoint, later_point, rows_point}
 
 -- ── the point ──
 
@@ -28,11 +27,11 @@ looked_up_at : point_cells rows_point ≡ Int (pos 1) ∷ Int (pos 2) ∷ Int (p
 looked_up_at = refl
 
 -- so layout 3, with no step
-looked_up_later : point_cells (settled 3) ≡ Int (pos 1) ∷ Int (pos 3) ∷ Int (pos 0) ∷ Int (pos 0) ∷ []
+looked_up_later : point_cells later_point ≡ Int (pos 1) ∷ Int (pos 3) ∷ Int (pos 0) ∷ Int (pos 0) ∷ []
 looked_up_later = refl
 
 -- rows can be looked up at both
-points_of_rows : IsRowsPoint rows_point × IsRowsPoint (settled 3)
+points_of_rows : IsRowsPoint rows_point × IsRowsPoint later_point
 points_of_rows = (inl refl, inr refl)
 
 -- ── what a row needs in another table ──

@@ -4,12 +4,11 @@ use Rattle.sqlite.specs.Held.{state}
 use Rattle.sqlite.specs.Store.{Ghosts}
 use Rattle.sqlite.specs.Tree.{Trees}
 use Rattle.sqlite.specs.declared.transaction.Transaction.{Transaction}
-use Rattle.mx_base.specs.Settled.{settled}
 use Rattle.mx_base.specs.declared.point.Point.{Point}
 use Rattle.mx_book.specs.commands.Act.{Entry}
 use Rattle.mx_layout.specs.declared.fault.TableFault.{TableFault}
 use Rattle.mx_lookups.specs.numbers.AnyRows.{ReadsAnyAt}
-use Rattle.mx_lookups.specs.numbers.Reads.{ReadsAt, rows_point}
+use Rattle.mx_lookups.specs.numbers.Reads.{ReadsAt, later_point, rows_point}
 use Rattle.mx_lookups.specs.numbers.Told.{Damage, TellsDamageAt}
 
 -- At the point what is answered is this of a book and this of any rows, and a table is told damaged only for this reason.
@@ -29,4 +28,4 @@ IsLookUp = IsLookUpAt rows_point
 -- It is such a look-up at the point at which rows are looked up, and at layout 3.
 pub record LooksUp {S V : Type 0} (g : Ghosts S) (Is : List Entry → V → Type 0) (IsOfRows : Trees → V → Type 0) (Why : Damage) (old new : Transaction S) (result : Result V TableFault) : Type 0 where
   pub now : IsLookUp g Is IsOfRows Why old new result
-  pub later : IsLookUpAt (settled 3) g Is IsOfRows Why old new result
+  pub later : IsLookUpAt later_point g Is IsOfRows Why old new result

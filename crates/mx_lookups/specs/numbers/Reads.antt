@@ -19,9 +19,13 @@ use Rattle.mx_lookups.specs.numbers.Damage.{IsDamaged}
 abbrev pub rows_point : Point
 rows_point = settled NEWEST_LAYOUT
 
--- rows can be looked up at this point: settled at layout 2, or at layout 3
+-- the point of the layout behind it, at which no file is yet
+abbrev pub later_point : Point
+later_point = settled 3
+
+-- rows can be looked up at this point: at either
 abbrev pub IsRowsPoint : Point → Type 0
-IsRowsPoint at = (at ≡ settled 2) ⊎ (at ≡ settled 3)
+IsRowsPoint at = (at ≡ rows_point) ⊎ (at ≡ later_point)
 
 -- the schema has the tables that a file has at the point, and behind them whatever tables and indexes
 unfoldable pub HasTablesOfRowsAt : Point → Schema → Type 0

@@ -1,11 +1,11 @@
 //! What was accomplished on items, by the accomplishments of layout 3.
 ghost use Rattle.std.specs.Prelude.{◌≡◌, IfOk, IfSome};
-ghost use Rattle.mx_base.specs.Settled.{settled};
 ghost use Rattle.mx_book.specs.due.Due.{IsBase};
 ghost use Rattle.mx_book.specs.Base.{base};
 ghost use Rattle.mx_registers.specs.late.Done.{last_base};
 ghost use Rattle.mx_lookups.specs.numbers.Later.{Accomplishments, AccomplishmentsDamage, LastBaseDamage, LastBaseOf, rows_accomplished};
 ghost use Rattle.mx_lookups.specs.numbers.LookUp.{IsLookUpAt};
+ghost use Rattle.mx_lookups.specs.numbers.Reads.{later_point};
 
 use crate::numbers::items::item_number;
 use mx_base::rows::DoneRow;
@@ -33,7 +33,7 @@ pub fn accomplishments<S: Alter>(
     item: &Item,
     id: &TaskId,
 ) -> Result<Vec<DoneRow>, TableFault>
-    ensures looks_up { IsLookUpAt (settled 3) S.Store
+    ensures looks_up { IsLookUpAt later_point S.Store
         (λ book rows. rows.items ≡ rows_accomplished book item.now id.now)
         (λ trees rows. Accomplishments item.now id.now trees rows.items)
         (AccomplishmentsDamage item.now id.now)
@@ -54,7 +54,7 @@ pub fn last_base<S: Alter>(
     item: &Item,
     id: &TaskId,
 ) -> Result<Option<Base>, TableFault>
-    ensures looks_up { IsLookUpAt (settled 3) S.Store
+    ensures looks_up { IsLookUpAt later_point S.Store
         (λ book found. found ≡ base book item.now id.now)
         (LastBaseOf item.now id.now)
         (LastBaseDamage item.now id.now)
