@@ -54,7 +54,7 @@ pub entry_unmet : (trees : Trees) (row : DeferralRow) → IsKept kept_defect tre
 unfolding IsDamaged
 entry_unmet trees row kept none = inr (inl (_, (5, omega arith, refl), refl, kept_unmet kept_defect kept_entry 0 (λ r. r.seq) (λ r. refl) _ table.Defect (λ r. r.doc) row kept refl refl none))
 
-defers : (kind : EntryKind) → is_deferral kind ≡ true → kind ≡ kinds.Defer
+pub defers : (kind : EntryKind) → is_deferral kind ≡ true → kind ≡ kinds.Defer
 defers kinds.Defer h = refl
 defers kinds.AddAircraft h = absurd cc
 defers kinds.AddComponent h = absurd cc
@@ -67,7 +67,7 @@ defers kinds.Release h = absurd cc
 defers kinds.Extend h = absurd cc
 
 -- the entry that defers has its number
-deferral_says : (rows : List EntryRow) (n : ℕ) (o : Option EntryRow) → o ≡ find (λ (row : EntryRow). is_deferral row.kind) rows → Some n ≡ option_map (λ (row : EntryRow). row.seq) o → (row : EntryRow) × Has rows row × (is_deferral row.kind ≡ true) × (n ≡ row.seq)
+pub deferral_says : (rows : List EntryRow) (n : ℕ) (o : Option EntryRow) → o ≡ find (λ (row : EntryRow). is_deferral row.kind) rows → Some n ≡ option_map (λ (row : EntryRow). row.seq) o → (row : EntryRow) × Has rows row × (is_deferral row.kind ≡ true) × (n ≡ row.seq)
 deferral_says rows n None is h = absurd cc
 deferral_says rows n (Some row) is h = let one = has_found (λ (r : EntryRow). is_deferral r.kind) rows row (sym is) in (row, one.0, one.1, cc)
 

@@ -3,6 +3,7 @@ pub mod RoomLookups
 pub mod DefectLemmas
 pub mod FittedLemmas
 pub mod FleetLemmas
+pub mod LaterLemmas
 pub mod RectifiedLemmas
 pub mod WalkLemmas
 pub mod LivesProofs

@@ -4,6 +4,7 @@ pub mod TableLemmas
 pub mod LaterTables
 pub mod LookupLemmas
 pub mod BookRows
+pub mod LaterRows
 pub mod SectorRows
 pub mod AnyLemmas
 pub mod ToldLemmas
@@ -11,4 +12,5 @@ pub mod Composed
 pub mod WorkedNumbers
 pub mod WorkedTold
 pub mod WorkedToldDefects
+pub mod WorkedLater
 pub mod WorkedUntold

@@ -5,4 +5,5 @@ pub mod AnyRows
 pub mod InForce
 pub mod Given
 pub mod Told
+pub mod Later
 pub mod LookUp

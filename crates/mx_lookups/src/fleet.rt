@@ -54,7 +54,7 @@ pub fn serials<S: Alter>(
 }
 
 // The defect that a deferral says, or `None` where its entry or its aircraft is not there.
-fn defect_of_row<S: Alter>(
+pub(crate) fn defect_of_row<S: Alter>(
     alloc: Global,
     tx: &mut Transaction<'_, S>,
     row: &DeferralRow,

@@ -15,6 +15,9 @@
 //! - What is answered of the whole fleet is the registrations of all aircraft, the serial numbers of all components and
 //!   the open defects of all aircraft, each in the order of their entries: `tails`, `serials`, `all_open_defects`:
 //!   `looks_up`.
+//! - At layout 3, with the deferrals of that layout, a defect, the open defects of an aircraft and those of all aircraft
+//!   are looked up as at layout 2: `later_defects`: `defect`, `open_defects`, `all_open_defects`: `looks_up`. The numbers
+//!   with which they begin are looked up at both layouts.
 //! - Over any rows, room is what the count of rows leaves: `has_room_for_aircraft`, `has_room_for_component`:
 //!   `looks_up` (`any_rows`).
 //! - Over any rows, what is fitted to an aircraft, its open defects and those of all aircraft are what each chosen row
@@ -23,6 +26,7 @@
 
 pub mod defects;
 pub mod fleet;
+pub mod later_defects;
 pub mod lists;
 pub mod lives;
 pub mod numbers;

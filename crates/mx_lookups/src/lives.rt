@@ -8,9 +8,12 @@
 //!   tasks in force, whether an item is retired, whether a task was accomplished, and its last base: `clock`,
 //!   `earliest_takeoff`, `life`, `next_revision`, `task`, `tasks`, `is_retired`, `is_accomplished`, `base`:
 //!   `looks_up`.
+//! - At layout 3, with the tables of that layout, the accomplishments of a task of an item and the base of the last of
+//!   them: `accomplishments`, `last_base`: `looks_up`.
 //! - Each task has its shape, and a base is one that an item may have, whatever the tables hold: `task`, `tasks`:
-//!   `shape`; `base`: `bounded`.
+//!   `shape`; `base`, `last_base`: `bounded`.
 
+pub mod done;
 pub mod lives;
 pub mod programmes;
 pub mod work;

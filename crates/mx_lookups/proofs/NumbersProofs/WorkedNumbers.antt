@@ -53,7 +53,10 @@ all_needs : map named needs
     ∷ ((codes "entry", Some (codes "seq")), (codes "defect", codes "defect"))
     ∷ ((codes "defect", Some (codes "seq")), (codes "entry", codes "defect"))
     ∷ ((codes "defect", Some (codes "aircraft")), (codes "aircraft", codes "defect"))
-    ∷ ((codes "extension", Some (codes "defect")), (codes "defect", codes "extension")) ∷ []
+    ∷ ((codes "extension", Some (codes "defect")), (codes "defect", codes "extension"))
+    ∷ ((codes "entry", Some (codes "seq")), (codes "defect3", codes "defect3"))
+    ∷ ((codes "defect3", Some (codes "seq")), (codes "entry", codes "defect3"))
+    ∷ ((codes "defect3", Some (codes "aircraft")), (codes "aircraft", codes "defect3")) ∷ []
 all_needs = refl
 
 -- the row of an entry, of the kind with this number
@@ -66,7 +69,7 @@ unfolding binary value_cmp is_nan lt
 deferrals = refl
 
 -- of entries those alone need a deferral, and each row of the other tables has its needs
-needs_of_a_release : map (λ need. need.has (entry_cells 8)) needs ≡ true ∷ true ∷ true ∷ true ∷ false ∷ true ∷ true ∷ true ∷ []
+needs_of_a_release : map (λ need. need.has (entry_cells 8)) needs ≡ true ∷ true ∷ true ∷ true ∷ false ∷ true ∷ true ∷ true ∷ false ∷ true ∷ true ∷ []
 unfolding binary value_cmp is_nan lt
 needs_of_a_release = refl
 
