@@ -35,6 +35,7 @@ module _ {R X : Type 0} (k : Kept R) (rows : List Entry → List R) (said : List
   abbrev IsBehind : List X → List R → Trees → Type 0
   IsBehind done left trees = (all : List R) × AreChosen k None k.order chosen trees all × AllByRecursion (IsChosen k chosen trees) left × ((later : List X) → AreSaid (Says trees) left later → AreSaid (Says trees) all (done ++ later))
 
+  -- from one state to the other, at the point, so much was said, and these rows are left
   abbrev pub WalksAt : Point → State → State → List X → List R → Type 0
   WalksAt at old new done left = ReadsAt {V = ℕ} at (λ book n. IsLeft done left book) old new (Ok 0) × ReadsAnyAt {V = ℕ} at (λ trees n. IsBehind done left trees) old new (Ok 0)
 

@@ -9,6 +9,8 @@
 //! Of every look-up, here, in `mx_lookups::lives` and at the top of the crate, by its clause `looks_up` (`IsLookUp`), of
 //! which these are the fields:
 //!
+//! - What it says is of one point (`IsLookUpAt`): `IsLookUp` of that at which rows are looked up, the look-ups of the
+//!   tables of layout 3 of that layout, and `LooksUp` of both.
 //! - Where the tables stand for a book, an answer is what the definition says of that book: `reads` (`Reads`: `read`).
 //! - Over any rows, an answer is what the rows give that were chosen by this name or number, or from a second table by
 //!   the number that the first gave; where that one has no such row, a registration, a clock, a life or a defect is not
@@ -29,7 +31,8 @@
 //!
 //! What is answered here is how many entries there are, the entry and the defect of a document, an aircraft, a
 //! component, their numbers, and the part at a position: `entry_count`, `entry_of_doc`, `defect_number`, `aircraft`,
-//! `component`, `aircraft_number`, `component_number`, `item_number`, `tail_of_number`, `part_at`.
+//! `component`, `aircraft_number`, `component_number`, `item_number`, `tail_of_number`, `part_at`. The numbers of a
+//! defect and of items, and the registration of an aircraft, are answered at both points.
 //!
 //! No clause says why the store failed: a look-up that always told so would have its clauses, and lines of
 //! `mx_test_office` would differ.

@@ -111,9 +111,6 @@ module _ {A : Type 0} {old new : State} where
   pub lines_all_at : {at : Point} {result : Result (Vec _ A) TableFault} → IsRowsPoint at → ReadsFirst kept_crs_line None kept_crs_line.order is_any (λ rows. rows.items) old new result → ReadsAt at (λ book rows. rows.items ≡ release_line_rows book) old new result
   lines_all_at {result = result} is = all_read kept_crs_line release_line_rows (release_lines_at is) (λ rows. rows.items) old new result
 
-  pub lines_all : {result : Result (Vec _ A) TableFault} → ReadsFirst kept_crs_line None kept_crs_line.order is_any (λ rows. rows.items) old new result → Reads (λ book rows. rows.items ≡ release_line_rows book) old new result
-  lines_all = lines_all_at now
-
   pub deferrals_of_number : {result : Result (Vec _ A) TableFault} (n : ℕ) → ReadsBy kept_defect 0 (Int (pos n)) old new result → Reads (λ book rows. rows.items ≡ filter (λ row. nat_eq row.seq n) (deferral_rows book)) old new result
   deferrals_of_number {result} = by_number kept_defect deferral_rows deferrals old new result 0 (λ row. row.seq) (λ row. refl)
 
