@@ -6,8 +6,8 @@ use crate::texts::append_open_fault;
 use mx_desk::jobs::office::{Office, OpenFault, open_office};
 use mx_test_cases::{AnswerText, Asked, Unmade};
 use mx_test_lines::database::answer_of_database;
-use mx_test_tables::faults::room;
 use mx_test_lines::moves::answer_of_install;
+use mx_test_tables::faults::room;
 use sqlite::{Alter, Connection};
 use std::alloc::Global;
 

@@ -11,7 +11,8 @@
 //! Lines over a database of layout 2: `enter COMMAND` hands a command in, which is judged by the rows of the tables and whose rows are
 //! written in one commit; `judge COMMAND`, the verdict on a command by these rows; `entries FROM AT_MOST` and `entry NUMBER COMMAND`,
 //! as in an office, by them; `rows` before one of the lines below for a list or for the life of an item, which is answered by them too;
-//! `kept` before a line of `mx_test_tables::kept`, whose head lists them, over kept rows.
+//! `kept` before a line of `mx_test_tables::kept`, whose head lists them, over kept rows; `later` before one of `later` there, over
+//! the tables of layout 3.
 //!
 //! Lines in the open office:
 //! - a command, in the words that `mx_test_cases` reads: hands it in; `run` the commands of a list, `first` the first;
