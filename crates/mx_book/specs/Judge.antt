@@ -193,7 +193,7 @@ wrong_part book _ = false
 -- the item is at the place: the airframe of the aircraft, a component fitted to it, or the component in the shop
 abbrev pub is_at : List Entry → Place → Item → Bool
 is_at book (Aircraft tail) (Airframe t) = same_text t tail
-is_at book (Aircraft tail) (Component serial) = option_map_or (λ t. same_text t tail) (tail_fitted book serial) false
+is_at book (Aircraft tail) (Component serial) = is_fitted_to book tail serial
 is_at book (Shop serial kind) (Airframe tail) = false
 is_at book (Shop serial kind) (Component s) = same_text s serial
 

@@ -2,6 +2,7 @@ pub mod Accepted
 pub mod Register
 pub mod Span
 pub mod Life
+pub mod Late
 pub mod Programme
 pub mod Defect
 pub mod Judge

@@ -1,7 +1,7 @@
 -- Where components were fitted, and from when to when.
-use Rattle.std.specs.Prelude.{ℕ, List, [], ◌∷◌, ◌++◌, Bool, ◌&&◌, Option, is_none, find, filter}
+use Rattle.std.specs.Prelude.{ℕ, List, [], ◌∷◌, ◌++◌, Bool, false, ◌&&◌, Option, is_none, find, filter}
 use Rattle.std.specs.List.{list_any}
-use Rattle.std.specs.Option.{option_map}
+use Rattle.std.specs.Option.{option_map, option_map_or}
 use Rattle.mx_book.specs.commands.Act.{Act, Entry, Fitted, removal_of}
 use Rattle.mx_book.specs.commands.Same.{same_text}
 use Rattle.mx_book.specs.Register.{register}
@@ -39,6 +39,10 @@ fitted book serial = find (λ s. same_text s.serial serial && is_none s.to) (spa
 -- the registration of the aircraft that a component is fitted to
 abbrev pub tail_fitted : List Entry → List ℕ → Option (List ℕ)
 tail_fitted book serial = option_map (λ s. s.tail) (fitted book serial)
+
+-- the component is fitted to the aircraft
+abbrev pub is_fitted_to : List Entry → List ℕ → List ℕ → Bool
+is_fitted_to book tail serial = option_map_or (λ t. same_text t tail) (tail_fitted book serial) false
 
 -- the span is open and of this aircraft
 abbrev pub is_open_on : List ℕ → Span → Bool

@@ -11,4 +11,8 @@ pub mod DoneFits
 pub mod FoundLemmas
 pub mod FoundBecomes
 pub mod SpansApart
+pub mod CrossingLemmas
+pub mod CrossedRows
+pub mod CrossesNone
+mod WorkedCrossings
 mod WorkedDone

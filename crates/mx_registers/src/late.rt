@@ -24,6 +24,10 @@
 //!   `found_cycles_become`, `sectors_in_order_leave_found_cycles`.
 //! - The rows fit their columns where the rows of the registers do, and values and bases are within the life of an item:
 //!   `accomplishments_fit`, `found_cycles_fit`.
+//! - Which sector of its aircraft a sector overlaps first, and which fitting, removal or release at it first fell between its
+//!   take-off and its landing, by the rows of sectors, spans and releases: `sectors_cross_by_rows`. Where it takes off by the
+//!   clock of its airframe there is none: `sectors_in_order_cross_nothing`.
 
+pub mod crossings;
 pub mod done;
 pub mod found;

@@ -18,11 +18,11 @@ use Rattle.mx_book.specs.declared.verdict.Verdict.TheVariants.{New}
 use Rattle.mx_book.specs.Book.{IsBook}
 use Rattle.mx_book.specs.Judge.{judge}
 use Rattle.mx_book.specs.Life.{clock, is_credited, is_within}
-use Rattle.mx_book.specs.Span.{Span, fitted, span_begun, spans, tail_fitted}
+use Rattle.mx_book.specs.Span.{Span, fitted, span_begun, spans, tail_fitted, is_fitted_to}
 use Rattle.mx_book.proofs.JudgeLemmas.{IsBook-entered}
 use Rattle.mx_book.proofs.PassLemmas.{new-fitting}
 use Rattle.mx_book.proofs.SpanLemmas.{removed_nowhere}
-use Rattle.mx_registers.specs.kept.Changes.{ended_by, is_fitted_to}
+use Rattle.mx_registers.specs.kept.Changes.{ended_by}
 use Rattle.mx_registers.specs.kept.Moments.{is_during}
 use Rattle.mx_registers.proofs.KeptProofs.CreditLemmas.{all_of, credited_there, serial_kept}
 use Rattle.mx_registers.proofs.KeptProofs.Induction.{of_each_book}

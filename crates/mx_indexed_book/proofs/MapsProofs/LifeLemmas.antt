@@ -17,7 +17,7 @@ use Rattle.mx_book.specs.declared.verdict.Verdict.TheVariants.{New}
 use Rattle.mx_book.specs.Book.{IsBook, is_new}
 use Rattle.mx_book.specs.Judge.{judge}
 use Rattle.mx_book.specs.Life.{clock, credited, cycles_of, has_landed_by, is_credited, minutes_of, use_after, use_or_none}
-use Rattle.mx_book.specs.Span.{Span, fitted, spans, tail_fitted}
+use Rattle.mx_book.specs.Span.{Span, fitted, spans, tail_fitted, is_fitted_to}
 use Rattle.mx_book.specs.Register.{aircraft, component}
 use Rattle.mx_book.specs.due.Due.{IsLife}
 use Rattle.mx_book.proofs.JudgeLemmas.{both_true}
@@ -28,7 +28,6 @@ use Rattle.mx_registers.proofs.KeptProofs.CreditLemmas.{lands_later}
 use Rattle.mx_registers.proofs.KeptProofs.JudgedLemmas.{new-timely, not_passed}
 use Rattle.mx_registers.proofs.KeptProofs.SpanGrowth.{same_sym}
 use Rattle.mx_registers.proofs.KeptProofs.LifeGrowth.{life_now-more, use_after_none}
-use Rattle.mx_registers.specs.kept.Changes.{is_fitted_to}
 use Rattle.mx_indexed_book.specs.maps.Lives.{airframe_changed, airframe_life, component_life, components_changed, flown_if, lead, lead_over, lead_with, leads_moved, life_where_fitted}
 use Rattle.mx_indexed_book.specs.maps.Movements.{behind, fitted_before, movements}
 use Rattle.mx_indexed_book.specs.declared.maps.movements.Movement.{Movement}

@@ -9,8 +9,7 @@ use Rattle.mx_book.specs.commands.Act.{Act, Entry, Added, Listed, Flown, Fitted,
 use Rattle.mx_book.specs.declared.commands.item.Item.TheVariants.{Airframe, Component}
 use Rattle.mx_book.specs.declared.commands.sector.Sector.{Sector}
 use Rattle.mx_book.specs.Life.{life_now, use_after, use_or_none}
-use Rattle.mx_book.specs.Span.{tail_fitted}
-use Rattle.mx_registers.specs.kept.Changes.{is_fitted_to}
+use Rattle.mx_book.specs.Span.{tail_fitted, is_fitted_to}
 use Rattle.mx_indexed_book.specs.maps.Maps.{HasRoom, HasRoomForAll, IsIndex}
 use Rattle.mx_indexed_book.specs.maps.Movements.{behind, movements}
 use Rattle.mx_indexed_book.specs.declared.maps.lives.Lead.{Lead}

@@ -8,7 +8,7 @@ ghost use Rattle.mx_book.specs.commands.Shape.{has_shape, sector_shape};
 ghost use Rattle.mx_book.specs.due.Due.{IsLife};
 ghost use Rattle.mx_book.specs.Book.{IsBook};
 ghost use Rattle.mx_book.specs.Life.{life_now, use_after, use_or_none};
-ghost use Rattle.mx_registers.specs.kept.Changes.{is_fitted_to};
+ghost use Rattle.mx_book.specs.Span.{is_fitted_to};
 ghost use Rattle.mx_indexed_book.specs.maps.Clocks.{AreClocks};
 ghost use Rattle.mx_indexed_book.specs.maps.Lives.{AreLives, AreLivesChanged, LivesHaveRoom, airframe_changed, airframe_life, component_changed, component_life, components_changed, flown_if, lead, lead_over, lead_with, leads_moved, life_where_fitted};
 ghost use Rattle.mx_indexed_book.specs.maps.Movements.{AreMovements};

@@ -15,9 +15,9 @@ use Rattle.mx_book.specs.declared.commands.fitting.Removal.{Removal}
 use Rattle.mx_book.proofs.CommandsProofs.SameLemmas.{text_same}
 use Rattle.mx_book.specs.Register.{register}
 use Rattle.mx_book.specs.Book.{IsBook}
-use Rattle.mx_book.specs.Span.{Span, first_removal, span_begun, spans, is_open_on}
+use Rattle.mx_book.specs.Span.{Span, first_removal, span_begun, spans, is_open_on, is_fitted_to}
 use Rattle.mx_book.specs.Life.{latest, if_same, airframe_moments, component_moments, removals_from, clock}
-use Rattle.mx_registers.specs.kept.Changes.{ended_by, is_fitted_to, moments_given}
+use Rattle.mx_registers.specs.kept.Changes.{ended_by, moments_given}
 use Rattle.mx_registers.proofs.KeptProofs.SpanGrowth.{span_of, spans-more}
 use Rattle.mx_registers.proofs.KeptProofs.PlaceLemmas.{open_where_fitted}
 

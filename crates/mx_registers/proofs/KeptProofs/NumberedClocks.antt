@@ -18,14 +18,14 @@ use Rattle.mx_book.specs.Register.{aircraft, component}
 use Rattle.mx_book.specs.Book.{IsBook, is_new, is_book_from}
 use Rattle.mx_book.specs.Judge.{judge, item_at as item_of_place}
 use Rattle.mx_book.specs.Life.{latest, if_same, use_after}
-use Rattle.mx_book.specs.Span.{span_begun}
+use Rattle.mx_book.specs.Span.{span_begun, is_fitted_to}
 use Rattle.mx_book.proofs.JudgeLemmas.{both_true}
 use Rattle.mx_registers.specs.Names.{has_item, item_at, serial_at, or_zero, seq_of_item, seq_of_serial, seq_of_tail}
 use Rattle.mx_registers.proofs.NameLemmas.{item_known, item_number, tail_known}
 use Rattle.mx_registers.proofs.NewLemmas.{added_is_unknown, deferred_is_known, fitted_is_known, listed_is_unknown, released_is_known, removed_is_known}
 use Rattle.mx_base.specs.declared.rows.rows.SpanRow.{SpanRow}
 use Rattle.mx_base.specs.declared.rows.rows.TotalRow.{TotalRow}
-use Rattle.mx_registers.specs.kept.Changes.{is_fitted_to, moments_given, sectors_given}
+use Rattle.mx_registers.specs.kept.Changes.{moments_given, sectors_given}
 use Rattle.mx_registers.specs.kept.Items.{items}
 use Rattle.mx_registers.specs.kept.Spans.{is_open_of, span_row, span_rows, span_rows_from}
 use Rattle.mx_registers.specs.kept.Totals.{clocked_row, numbers_there, numbers_touched, total_by_number, total_grown, total_row, total_rows, totals_opened}

@@ -8,9 +8,9 @@ use Rattle.mx_book.specs.commands.Act.{Act, Entry, Fitted, Removed}
 use Rattle.mx_book.specs.commands.Same.{same_text}
 use Rattle.mx_book.proofs.CommandsProofs.SameLemmas.{text_same}
 use Rattle.mx_book.specs.Book.{IsBook}
-use Rattle.mx_book.specs.Span.{Span, spans, spans_of, span_begun, fitted, is_open_on}
+use Rattle.mx_book.specs.Span.{Span, spans, spans_of, span_begun, fitted, is_open_on, is_fitted_to}
 use Rattle.mx_book.proofs.SpanLemmas.{one_place}
-use Rattle.mx_registers.specs.kept.Changes.{ended_by, is_fitted_to}
+use Rattle.mx_registers.specs.kept.Changes.{ended_by}
 use Rattle.mx_registers.proofs.KeptProofs.SpanGrowth.{span_of, spans-more}
 
 -- ── lists of which at most one element passes a test ──

@@ -7,7 +7,7 @@ use Rattle.mx_book.specs.declared.commands.item.Item.{Item}
 use Rattle.mx_book.specs.declared.commands.item.Item.TheVariants.{Airframe, Component}
 use Rattle.mx_book.specs.declared.commands.release.Place.TheVariants.{Aircraft, Shop}
 use Rattle.mx_book.specs.declared.commands.sector.Sector.{Sector}
-use Rattle.mx_book.specs.Span.{Span, spans}
+use Rattle.mx_book.specs.Span.{Span, spans, is_fitted_to}
 use Rattle.mx_book.proofs.Worked.{at, abcd, logged}
 use Rattle.mx_book.proofs.WorkedFittings.{engine, propeller, e1, e2, engine_with, fit, remove}
 use Rattle.mx_book.proofs.WorkedProgrammes.{c172, minutes_alone, open_task}
@@ -15,7 +15,7 @@ use Rattle.mx_base.specs.declared.rows.rows.SpanRow.{SpanRow}
 use Rattle.mx_registers.specs.Registers.{fitting_rows, fittings_by}
 use Rattle.mx_registers.specs.kept.Bases.{each_once, is_keyed, tasks_accomplished, tasks_by}
 use Rattle.mx_registers.specs.kept.Becomes.{adding, bases_become, spans_become, totals_become}
-use Rattle.mx_registers.specs.kept.Changes.{due_at, ended_by, entry_of, is_fitted_to, moments_given, sectors_given, sectors_late}
+use Rattle.mx_registers.specs.kept.Changes.{due_at, ended_by, entry_of, moments_given, sectors_given, sectors_late}
 use Rattle.mx_registers.specs.kept.Spans.{is_span_touched, span_ended, span_rows, spans_opened}
 use Rattle.mx_registers.specs.kept.Totals.{clocked_row, credited_row, numbers_touched, raised_row, set_row, total_by_number, total_changed, total_rows}
 use Rattle.mx_registers.proofs.KeptProofs.WorkedKept.{base_of_task, flown, in_service, overhauled, span_of_e1, span_of_e2, total, overhaul_of_e1, work_on_abcd}

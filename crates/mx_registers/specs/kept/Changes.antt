@@ -31,10 +31,6 @@ ended_by _ s = s
 abbrev pub IsTimed : List Entry → Span → Type 0
 IsTimed book s = (s.from ≤ clock book (Airframe s.tail)) × IfSome s.to (λ m. (m ≤ clock book (Airframe s.tail)) × (m ≤ clock book (Component s.serial)))
 
--- the component is fitted to the aircraft
-abbrev pub is_fitted_to : List Entry → List ℕ → List ℕ → Bool
-is_fitted_to book tail serial = option_map_or (λ t. same_text t tail) (tail_fitted book serial) false
-
 -- the sectors that an entry adds to those of an item: its own, where the item is credited with it
 abbrev pub sectors_given : List Entry → Item → Act → List Sector
 sectors_given before item (Flown s) = if is_credited before item s then s ∷ [] else []

@@ -4,7 +4,7 @@ use Rattle.mx_base.specs.declared.amounts.Use.{Use}
 use Rattle.mx_book.specs.declared.commands.item.Item.TheVariants.{Component}
 use Rattle.mx_book.specs.due.Due.{IsLife}
 use Rattle.mx_book.proofs.LifeLemmas.{life_in_bounds}
-use Rattle.mx_registers.specs.kept.Changes.{is_fitted_to}
+use Rattle.mx_book.specs.Span.{is_fitted_to}
 use Rattle.mx_indexed_book.specs.maps.Lives.{flown_if, lead_over, life_where_fitted}
 use Rattle.mx_indexed_book.proofs.MapsProofs.LifeLemmas.{where_bounded}
 use Rattle.mx_indexed_book.proofs.maps.lives.Lives.lead_with.Goals as goal
