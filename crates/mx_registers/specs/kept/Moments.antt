@@ -1,5 +1,5 @@
 -- Lives by moments: what was flown with an aircraft by its landings, and what a component has of it by the moments of its spans.
-use Rattle.std.specs.Prelude.{◌≡◌, ℕ, ◌+◌, ◌-◌, min, nat_eq, nat_le, nat_lt, List, [], ◌∷◌, Bool, true, false, ◌&&◌, Option, Some, None, IfSome, filter}
+use Rattle.std.specs.Prelude.{◌≡◌, ℕ, ◌+◌, ◌-◌, min, nat_eq, nat_le, List, [], ◌∷◌, Bool, true, false, ◌&&◌, Option, Some, None, IfSome, filter}
 use Rattle.std.specs.Option.{option_map}
 use Rattle.mx_base.specs.declared.amounts.Use.{Use}
 use Rattle.mx_base.specs.declared.rows.rows.SectorRow.{SectorRow}
