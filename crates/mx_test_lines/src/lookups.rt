@@ -207,11 +207,7 @@ fn sector_of(tail: &str, off: &str, on: &str) -> Result<Sector, Unmade> {
 }
 
 // What is looked up for a sector that is entered late, or an aircraft that flies one.
-fn answer_of_sector<S: Alter>(
-    alloc: Global,
-    conn: &mut Connection<S>,
-    words: &[&str],
-) -> AnswerText
+fn answer_of_sector<S: Alter>(alloc: Global, conn: &mut Connection<S>, words: &[&str]) -> AnswerText
     requires { conn.old.in_transaction ≡ false }
 {
     match words {
