@@ -15,9 +15,8 @@ use mx_book::commands::Sector;
 use mx_layout::{Table, TableFault};
 use mx_row_rules::found::aircraft::aircraft_in;
 use mx_row_rules::found::crossings::{
-    earliest_overlapping, overlapped_in, sooner, straddled_moves, straddled_releases,
+    earliest_overlapping, late_in, overlapped_in, sooner, straddled_moves, straddled_releases,
 };
-use mx_row_rules::found::lives::clock_in;
 use mx_table_rows::chosen::items::aircraft_by_tail;
 use mx_table_rows::chosen::kept::{span2_by_aircraft, total2_by_item};
 use mx_table_rows::chosen::sectors::sector2_between;
@@ -63,14 +62,8 @@ fn late_number<S: Alter>(
     match found {
         Some(number) => {
             let rows = total2_by_item(alloc, tx, number)?;
-            match clock_in(&rows) {
-                Some(clock) => {
-                    if sector.off < clock {
-                        Ok(Some(number))
-                    } else {
-                        Ok(None)
-                    }
-                }
+            match late_in(&rows, number, sector) {
+                Some(late) => Ok(late),
                 None => Err(TableFault::Damaged(Table::Total2)),
             }
         }

@@ -21,3 +21,4 @@ pub mod StatedLemmas
 pub mod CrossingLemmas
 pub mod WorkedFound
 pub mod WorkedStated
+pub mod WorkedCrossings

@@ -39,6 +39,11 @@
 //! - `all_open_defects`: all deferrals, lines, the entry and the aircraft of each by number:
 //!   `all_open_defects_are_found`, `documents_are_found`, `aircraft_are_found`.
 //!
+//! Of what is looked up before a sector is entered late, the rows that it asks for, and the law:
+//!
+//! - `first_overlapped`, `first_straddled`: the aircraft by its name, its total by its number; where the sector is late the
+//!   sectors of the aircraft near it, or its spans and the releases at it meanwhile: `crossings_are_found`.
+//!
 //! # What is promised
 //!
 //! Of rows that are those of a book, by the laws above; the look-ups of `mx_lookups` find rows so, and
@@ -70,8 +75,11 @@
 //! - Of each of the ten kinds of command, the rows with the number say whether it is known, by which number, and
 //!   whether that entry says the same; of a fitting and a removal the rows of spans say it:
 //!   `commands_are_known_by_rows`, `moves_are_known_by_spans`.
+//! - The total of an aircraft says whether a sector takes off before its clock; the sectors and releases near that one, and
+//!   the spans of the aircraft, say which entries it overlaps and straddles first, and one that is not late crosses none:
+//!   `crossings_are_found`.
 //! - What each look-up makes of any rows is its definition, which computes: the functions of `entries`, `aircraft`,
-//!   `components`, `lives`, `spans`, `defects`, `programmes` and `known`.
+//!   `components`, `lives`, `spans`, `defects`, `programmes`, `known` and `crossings`.
 //! - Rows of a table are compared whole, each with each: `are_same_aircraft` and its like, one of each register but the
 //!   entries, the fittings and the removals.
 

@@ -1,5 +1,5 @@
 -- What is answered over any rows of a sector that is entered late, and which table is told damaged then.
-use Rattle.std.specs.Prelude.{◌≡◌, ℕ, nat_lt, pos, List, Option, Some, None, if◌then◌else◌, Bool}
+use Rattle.std.specs.Prelude.{◌≡◌, ℕ, pos, List, Option, Some, None, Bool}
 use Rattle.std.specs.Option.{option_map_or}
 use Rattle.sqlite.specs.declared.types.Value.TheVariants.{Int, Text}
 use Rattle.sqlite.specs.Order.{Row}
@@ -11,8 +11,7 @@ use Rattle.mx_base.specs.declared.rows.rows.SpanRow.{SpanRow}
 use Rattle.mx_registers.specs.late.Crossings.{sooner}
 use Rattle.mx_layout.specs.kept.Cells.{kept_aircraft, kept_crs, kept_sector2, kept_span2, kept_total2}
 use Rattle.mx_table_rows.specs.chosen.Choices.{has_value, is_between}
-use Rattle.mx_row_rules.specs.found.Crossings.{earliest_overlapping, overlapped_in, straddled_moves, straddled_releases}
-use Rattle.mx_row_rules.specs.found.Lives.{clock_in}
+use Rattle.mx_row_rules.specs.found.Crossings.{earliest_overlapping, late_in, overlapped_in, straddled_moves, straddled_releases}
 use Rattle.mx_row_rules.specs.found.Said.{aircraft_in}
 use Rattle.mx_lookups.specs.numbers.AnyRows.{AreChosen, Gives, GivesBy}
 use Rattle.mx_lookups.specs.numbers.Given.{AircraftNumber}
@@ -22,9 +21,9 @@ use Rattle.mx_lookups.specs.numbers.Told.{Damage, DamageBy, Either, TotalDamage,
 abbrev pub AsOf : List ℕ → Trees → ℕ → Type 0
 AsOf tail = Gives kept_aircraft (has_value 1 (Text tail)) (λ rows. option_map_or (λ aircraft. aircraft.as_of) (aircraft_in rows) 0)
 
--- the number of the aircraft of a sector where the clock in its total, which is there, is behind the take-off
+-- the number of the aircraft of a sector where this takes off before the clock in the total with that number, which is there
 abbrev pub LateNumber : Sector → Trees → Option ℕ → Type 0
-LateNumber s = GivesBy (AircraftNumber s.tail) None (λ n trees found. (clock : ℕ) × Gives kept_total2 (has_value 0 (Int (pos n))) clock_in trees (Some clock) × (found ≡ if nat_lt s.off clock then Some n else None))
+LateNumber s = GivesBy (AircraftNumber s.tail) None (λ n trees found. Gives kept_total2 (has_value 0 (Int (pos n))) (late_in s n) trees (Some found))
 
 -- a sector of the aircraft with a number that took off near this one
 abbrev pub is_near_row : ℕ → Sector → Row → Bool

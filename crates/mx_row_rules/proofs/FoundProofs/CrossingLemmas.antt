@@ -1,6 +1,6 @@
 -- What rows near a sector that is entered late say of what it crosses.
 use Rattle.std.proofs.Common.{arith, refl, sym, ap, ap₂, subst, ◌∙◌, ◌≡◌, ℕ, ◌+◌, ◌≤◌, List, [], ◌∷◌, ◌++◌, Bool, true, false, cond, nat_eq, ◌&&◌, Option, Some, None, map, filter}
-use Rattle.std.specs.Prelude.{find, fold, nat_le, nat_lt}
+use Rattle.std.specs.Prelude.{find, fold, nat_le, nat_lt, slice_get}
 use Rattle.std.specs.List.{flat_map, list_all, AllByRecursion}
 use Rattle.std.specs.Option.{option_map}
 use Rattle.std.proofs.lemmas.Bool.Decides.{nat_tests}
@@ -8,6 +8,7 @@ use Rattle.mx_base.specs.declared.rows.rows.ReleaseRow.{ReleaseRow}
 use Rattle.mx_base.specs.declared.rows.rows.Sector2Row.{Sector2Row}
 use Rattle.mx_base.specs.declared.rows.rows.SectorRow.{SectorRow}
 use Rattle.mx_base.specs.declared.rows.rows.SpanRow.{SpanRow}
+use Rattle.mx_base.specs.declared.rows.rows.TotalRow.{TotalRow}
 use Rattle.mx_book.specs.commands.Act.{Act, Entry, Flown}
 use Rattle.mx_book.specs.commands.Shape.{act_shape, doc_shape, has_shape, sector_shape}
 use Rattle.mx_book.specs.declared.commands.item.Item.TheVariants.{Airframe}
@@ -19,12 +20,13 @@ use Rattle.mx_book.proofs.JudgeLemmas.{both_true}
 use Rattle.mx_registers.specs.Names.{or_zero, seq_of_tail}
 use Rattle.mx_registers.specs.Registers.{gives_by, release_rows, sector_rows, sectors_by}
 use Rattle.mx_registers.specs.kept.Spans.{span_rows}
+use Rattle.mx_registers.specs.kept.Totals.{total_rows}
 use Rattle.mx_registers.specs.late.Crossings.{crossed_by, crossed_end, crossed_in, crossed_numbers, least, overlapped_among, sooner}
 use Rattle.mx_registers.proofs.LateProofs.CrossedRows.{least-append, sooner_assoc, straddle_least}
 use Rattle.mx_registers.proofs.LateProofs.CrossesNone.{crosses_none}
 use Rattle.mx_registers.proofs.LateProofs.CrossingLemmas.{overlap_rows}
-use Rattle.mx_row_rules.specs.found.Crossings.{ended_during, is_near, is_overlapped, is_released_near, late_number, number_during, overlapped_in, soonest, straddled_moves, straddled_releases}
-use Rattle.mx_row_rules.proofs.FoundProofs.LifeLemmas.{no_clock}
+use Rattle.mx_row_rules.specs.found.Crossings.{ended_during, is_near, is_overlapped, is_released_near, late_in, late_number, number_during, overlapped_in, soonest, straddled_moves, straddled_releases}
+use Rattle.mx_row_rules.proofs.FoundProofs.LifeLemmas.{clock_found, no_clock}
 use Rattle.mx_row_rules.proofs.FoundProofs.ThereLemmas.{tail_there}
 
 -- ── what the functions make of rows ──
@@ -174,6 +176,24 @@ not_late book s b h = at (nat_lt s.off (clock book (Airframe s.tail))) refl h
     at : (c : Bool) → nat_lt s.off (clock book (Airframe s.tail)) ≡ c → cond c (seq_of_tail book s.tail) None ≡ None → clock book (Airframe s.tail) ≤ s.off
     at true e h = let none : clock book (Airframe s.tail) ≡ 0 = no_clock book (Airframe s.tail) b h in omega (arith, none)
     at false e h = grind (arith, nat_tests)
+
+-- its total says whether it is late
+pub late_found : (book : List Entry) (s : Sector) (n : ℕ) → IsBook book → seq_of_tail book s.tail ≡ Some n → late_in s n (filter (λ (row : TotalRow). nat_eq row.item n) (total_rows book)) ≡ Some (late_number book s)
+late_found book s n b h =
+    by_clock (slice_get (filter (λ (row : TotalRow). nat_eq row.item n) (total_rows book)) 0) (clock_found book (Airframe s.tail) n b h)
+    ∙ ap (λ o. Some (cond (nat_lt s.off (clock book (Airframe s.tail))) o None)) (sym h)
+  where
+    by_clock : (o : Option TotalRow) → option_map (λ (row : TotalRow). row.clock) o ≡ Some (clock book (Airframe s.tail)) → option_map (λ (row : TotalRow). cond (nat_lt s.off row.clock) (Some n) None) o ≡ Some (cond (nat_lt s.off (clock book (Airframe s.tail))) (Some n) None)
+    by_clock None e = absurd cc
+    by_clock (Some row) e = let same : row.clock ≡ clock book (Airframe s.tail) = cc in ap (λ m. Some (cond (nat_lt s.off m) (Some n) None)) same
+
+-- a sector of an aircraft that is not there is not late
+pub unknown_on_time : (book : List Entry) (s : Sector) → seq_of_tail book s.tail ≡ None → late_number book s ≡ None
+unknown_on_time book s h = ap (λ o. cond (nat_lt s.off (clock book (Airframe s.tail))) o None) h ∙ either (nat_lt s.off (clock book (Airframe s.tail)))
+  where
+    either : (b : Bool) → cond {A = Option ℕ} b None None ≡ None
+    either true = refl
+    either false = refl
 
 pub overlap_found : (book : List Entry) (s : Sector) (n : ℕ) → IsBook book → late_number book s ≡ Some n → overlapped_in s (filter (is_near n s) (sector_rows book)) ≡ first_overlapped book s
 overlap_found book s n b h =

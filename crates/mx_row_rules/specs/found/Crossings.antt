@@ -1,5 +1,5 @@
 -- What rows that were found say of a sector that is entered late: the sector of its aircraft that it overlaps first, and the fitting, removal or release that it straddles first.
-use Rattle.std.specs.Prelude.{ℕ, ◌-◌, nat_eq, nat_le, nat_lt, List, [], ◌∷◌, Bool, ◌&&◌, Option, Some, None, find, if◌then◌else◌}
+use Rattle.std.specs.Prelude.{ℕ, ◌-◌, nat_eq, nat_le, nat_lt, List, [], ◌∷◌, Bool, ◌&&◌, Option, Some, None, find, slice_get, if◌then◌else◌}
 use Rattle.std.specs.Option.{option_map}
 use Rattle.mx_book.specs.commands.Act.{Entry}
 use Rattle.mx_book.specs.declared.commands.item.Item.TheVariants.{Airframe}
@@ -10,12 +10,17 @@ use Rattle.mx_book.specs.Life.{clock}
 use Rattle.mx_base.specs.declared.rows.rows.ReleaseRow.{ReleaseRow}
 use Rattle.mx_base.specs.declared.rows.rows.SectorRow.{SectorRow}
 use Rattle.mx_base.specs.declared.rows.rows.SpanRow.{SpanRow}
+use Rattle.mx_base.specs.declared.rows.rows.TotalRow.{TotalRow}
 use Rattle.mx_registers.specs.Names.{seq_of_tail}
 use Rattle.mx_registers.specs.late.Crossings.{sooner}
 
 -- the number of the sector's aircraft, where it takes off before the clock of that airframe
 abbrev pub late_number : List Entry → Sector → Option ℕ
 late_number book s = if nat_lt s.off (clock book (Airframe s.tail)) then seq_of_tail book s.tail else None
+
+-- the number of the aircraft where a sector takes off before the clock in the first of these totals, or none where it does not; nothing without a total
+abbrev pub late_in : Sector → ℕ → List TotalRow → Option (Option ℕ)
+late_in s number rows = option_map (λ row. if nat_lt s.off row.clock then Some number else None) (slice_get rows 0)
 
 -- the earliest take-off of a sector that may be under way at that of this one: none lasts longer than a day
 abbrev pub earliest_overlapping : Sector → ℕ

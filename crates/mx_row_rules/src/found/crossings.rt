@@ -3,19 +3,36 @@
 ghost use Rattle.std.specs.Prelude.{◌≡◌, ℕ, List, filter, map, nat_eq, None, Some};
 ghost use Rattle.mx_base.specs.declared.rows.rows.Sector2Row.{Sector2Row};
 ghost use Rattle.mx_base.specs.declared.rows.rows.SpanRow.{SpanRow};
+ghost use Rattle.mx_base.specs.declared.rows.rows.TotalRow.{TotalRow};
 ghost use Rattle.mx_book.specs.commands.Act.{Entry};
 ghost use Rattle.mx_book.specs.declared.commands.sector.Sector.{Sector};
 ghost use Rattle.mx_book.specs.Book.{IsBook};
 ghost use Rattle.mx_book.specs.Late.{first_overlapped, first_straddled};
+ghost use Rattle.mx_registers.specs.Names.{seq_of_tail};
 ghost use Rattle.mx_registers.specs.Registers.{release_rows, sector_rows};
 ghost use Rattle.mx_registers.specs.kept.Spans.{span_rows};
+ghost use Rattle.mx_registers.specs.kept.Totals.{total_rows};
 ghost use Rattle.mx_registers.specs.late.Crossings.{sooner};
-ghost use Rattle.mx_row_rules.specs.found.Crossings.{earliest_overlapping, ended_during, is_near, is_released_near, late_number, number_during, overlapped_in, straddled_moves, straddled_releases};
+ghost use Rattle.mx_row_rules.specs.found.Crossings.{earliest_overlapping, ended_during, is_near, is_released_near, late_in, late_number, number_during, overlapped_in, straddled_moves, straddled_releases};
 
 use mx_base::Moment;
-use mx_base::rows::{ReleaseRow, Sector2Row, SpanRow};
+use mx_base::rows::{ReleaseRow, Sector2Row, SpanRow, TotalRow};
 use mx_book::commands::Sector;
 use mx_book::commands::shape::MOST_SECTOR_MINUTES;
+
+/// The number of the aircraft where the sector takes off before the clock in the first of these totals, that of its airframe;
+/// `None` in place of a number where it does not, and `None` without a total.
+pub fn late_in(rows: &[TotalRow], number: u32, sector: &Sector) -> Option<Option<u32>>
+    ensures { result ≡ late_in sector.now number rows.now }
+{
+    rows.first().map(|row| {
+        if sector.off < row.clock {
+            Some(number)
+        } else {
+            None
+        }
+    })
+}
 
 /// The earliest take-off of a sector that may be under way at that of this one: none lasts longer than a day.
 pub fn earliest_overlapping(sector: &Sector) -> Moment
@@ -90,10 +107,16 @@ pub fn straddled_releases(rows: &[ReleaseRow], sector: &Sector) -> Option<u32>
     })
 }
 
-/// Which entries a sector overlaps and straddles first is said by the sectors and the releases of its aircraft that are
-/// near it, and by the spans of the aircraft, where it takes off before the clock of its airframe; and no other crosses
-/// one.
+/// Whether a sector takes off before the clock of its airframe is said by the total of its aircraft. Where it does, the
+/// sectors and the releases of the aircraft that are near it, and the spans of the aircraft, say which entries it overlaps
+/// and straddles first; and where it does not, it crosses none.
 pub fn crossings_are_found()
+    ensures late { (book : List Entry) (sector : Sector) (n : ℕ) → IsBook book
+        → seq_of_tail book sector.tail ≡ Some n
+        → late_in sector n (filter (λ (row : TotalRow). nat_eq row.item n) (total_rows book))
+        ≡ Some (late_number book sector) }
+    ensures unknown { (book : List Entry) (sector : Sector)
+        → seq_of_tail book sector.tail ≡ None → late_number book sector ≡ None }
     ensures overlap { (book : List Entry) (sector : Sector) (n : ℕ) → IsBook book
         → late_number book sector ≡ Some n
         → overlapped_in sector (filter (is_near n sector) (sector_rows book))
