@@ -2,3 +2,4 @@ pub mod DamageLemmas
 pub mod BaseLookups
 pub mod DoneLookups
 pub mod InForceLemmas
+pub mod RebasedRows

@@ -73,7 +73,7 @@ by_parts a b c d low Greater e h = let above = greater c a e in omega arith
 past_same : (a : Value) (o : Ordering) → is_lt (ordering_then (value_cmp a a) o) ≡ false → is_lt o ≡ false
 past_same a o h = subst (λ first. is_lt (ordering_then first o) ≡ false) (tied_itself value_cmp_total a) h
 
-abbrev place : DoneRow → ℕ
+abbrev pub place : DoneRow → ℕ
 place row = line_key row.seq row.line
 
 module _ (n : ℕ) (id : List ℕ) where
@@ -94,12 +94,12 @@ module _ (n : ℕ) (id : List ℕ) where
   up x y fits h = by_parts x.seq x.line y.seq y.line fits.line _ refl (past_same (Text id) _ (past_same (Int (pos n)) _ h))
 
   -- rows of the task that were read in the order of the table ascend by their entries and lines
-  ascending : (rows : List DoneRow) → All FitsDone rows → All (λ row. is_done_of n id row ≡ true) rows → IsSorted by_four (map kept_done3.as_cells rows) → IsFrom place 0 rows
+  pub ascending : (rows : List DoneRow) → All FitsDone rows → All (λ row. is_done_of n id row ≡ true) rows → IsSorted by_four (map kept_done3.as_cells rows) → IsFrom place 0 rows
   ascending rows fits are sorted = ascends (λ row. kept_done3.as_cells (as_its row)) FitsDone by_four place up rows fits (subst (IsSorted by_four) (sym (all_its rows (recursion_from_All (λ row. is_done_of n id row ≡ true) rows are))) sorted)
 
   -- ── the look-up ──
 
-  of_is : (row : DoneRow) → is_of n id (kept_done3.as_cells row) ≡ is_done_of n id row
+  pub of_is : (row : DoneRow) → is_of n id (kept_done3.as_cells row) ≡ is_done_of n id row
   of_is row = ap₂ ◌&&◌ (number_is row.item n) (text_is row.task id)
 
   -- what was chosen are the rows of the task of the item with the number, in their order

@@ -1,5 +1,5 @@
 -- What the look-ups of layout 3 answer over any rows, and for which of these they tell which table damaged.
-use Rattle.std.specs.Prelude.{◌≡◌, ℕ, pos, List, [], slice_get, Option, None, Some}
+use Rattle.std.specs.Prelude.{◌≡◌, ℕ, pos, List, [], filter, map, slice_get, IsPermutation, Option, None, Some}
 use Rattle.std.specs.Option.{option_map_or}
 use Rattle.sqlite.specs.Tree.{Trees}
 use Rattle.sqlite.specs.declared.types.Value.TheVariants.{Int}
@@ -8,10 +8,14 @@ use Rattle.mx_base.specs.declared.rows.rows.Deferral3Row.{Deferral3Row}
 use Rattle.mx_base.specs.declared.rows.rows.DoneRow.{DoneRow}
 use Rattle.mx_book.specs.commands.Act.{Entry}
 use Rattle.mx_book.specs.declared.commands.item.Item.{Item}
+use Rattle.mx_book.specs.declared.commands.sector.Sector.{Sector}
 use Rattle.mx_book.specs.declared.defects.Defect.{Defect}
 use Rattle.mx_book.specs.due.Due.{IsLife}
 use Rattle.mx_registers.specs.Names.{seq_of_item}
-use Rattle.mx_registers.specs.late.Done.{done_rows_of, last_base}
+use Rattle.mx_registers.specs.kept.Totals.{numbers_flown}
+use Rattle.mx_registers.specs.late.Done.{credited_late, done_rows_of, last_base}
+use Rattle.mx_layout.specs.Contents.{rows_in}
+use Rattle.mx_layout.specs.Tables.{done3}
 use Rattle.mx_layout.specs.declared.fault.Table.TheVariants as table
 use Rattle.mx_layout.specs.kept.Cells.{kept_crs_line, kept_defect3, kept_done3}
 use Rattle.mx_table_rows.specs.chosen.Choices.{has_value, is_any}
@@ -46,6 +50,16 @@ HasPastDone n id trees = (base : Base) × Gives kept_done3 (is_of n id) last_bas
 -- of those, also where the last leaves a base past a life
 abbrev pub LastBaseDamage : Item → List ℕ → Damage
 LastBaseDamage item id = DamageBy (ItemDamage item) (ItemNumber item) (λ n. Either (Unread kept_done3 (is_of n id)) (Of table.Done3 (HasPastDone n id)))
+
+-- ── accomplishments with a new sector ──
+
+-- of a book, the rows of a task of the item with a number, their values with a sector, due and base as they were
+abbrev pub done_credited : List Entry → Sector → ℕ → Item → List ℕ → List DoneRow
+done_credited book s n item id = map (credited_late book (numbers_flown book s) s) (done_rows_of book n item id)
+
+-- exactly these are the accomplishments of the task of the item with the number, in whatever order they are stored
+abbrev pub AreDoneRows : ℕ → List ℕ → Trees → List DoneRow → Type 0
+AreDoneRows n id trees rows = IsPermutation (map kept_done3.as_cells rows) (filter (is_of n id) (rows_in done3 trees))
 
 -- ── defects ──
 
