@@ -17,7 +17,7 @@ use Rattle.mx_book.specs.declared.verdict.Refusal.TheVariants.{Conflict, Full, U
 use Rattle.mx_book.specs.declared.verdict.Verdict.{Verdict}
 use Rattle.mx_book.specs.declared.verdict.Verdict.TheVariants.{New, Already, Refused}
 use Rattle.mx_book.specs.Register.{aircraft, component, part_at, is_of_part, found_of, as_of, is_other_kind_in, has_room_for_aircraft, has_room_for_component}
-use Rattle.mx_book.specs.Span.{fitted, tail_fitted, is_taken}
+use Rattle.mx_book.specs.Span.{fitted, is_fitted_to, is_taken, tail_fitted}
 use Rattle.mx_book.specs.Life.{clock, opening_of}
 use Rattle.mx_book.specs.declared.defects.Defect.{Defect}
 use Rattle.mx_book.specs.Defect.{defect, day_found, extension, interval, is_rectified, is_stated, last_permitted}

@@ -6,6 +6,7 @@ pub mod LookupLemmas
 pub mod BookRows
 pub mod LaterRows
 pub mod SectorRows
+pub mod CrossingRows
 pub mod AnyLemmas
 pub mod ToldLemmas
 pub mod Composed

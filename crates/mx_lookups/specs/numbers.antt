@@ -6,4 +6,5 @@ pub mod InForce
 pub mod Given
 pub mod Told
 pub mod Later
+pub mod Crossings
 pub mod LookUp

@@ -18,12 +18,16 @@
 //! - At layout 3, with the deferrals of that layout, a defect, the open defects of an aircraft and those of all aircraft
 //!   are looked up as at layout 2: `later_defects`: `defect`, `open_defects`, `all_open_defects`: `looks_up`. The numbers
 //!   with which they begin are looked up at both layouts.
+//! - At both layouts, from when on there are records of an aircraft, and which entries a sector overlaps and straddles
+//!   first; a sector that takes off by the clock of its airframe crosses none, and asks no more than that: `crossings`:
+//!   `as_of`, `first_overlapped`, `first_straddled`: `looks_up`.
 //! - Over any rows, room is what the count of rows leaves: `has_room_for_aircraft`, `has_room_for_component`:
 //!   `looks_up` (`any_rows`).
 //! - Over any rows, what is fitted to an aircraft, its open defects and those of all aircraft are what each chosen row
 //!   says, one after another: `fitted`, `open_defects`, `all_open_defects`: `looks_up` (`any_rows`).
 #![tactic(auto)]
 
+pub mod crossings;
 pub mod defects;
 pub mod fleet;
 pub mod later_defects;

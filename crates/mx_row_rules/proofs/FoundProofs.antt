@@ -18,5 +18,6 @@ pub mod EqualLemmas
 pub mod LastLemmas
 pub mod ProgrammeLemmas
 pub mod StatedLemmas
+pub mod CrossingLemmas
 pub mod WorkedFound
 pub mod WorkedStated

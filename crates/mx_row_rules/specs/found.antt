@@ -6,3 +6,4 @@ pub mod Defects
 pub mod Programmes
 pub mod Given
 pub mod Stated
+pub mod Crossings

@@ -77,6 +77,7 @@
 
 pub mod aircraft;
 pub mod components;
+pub mod crossings;
 pub mod defects;
 pub mod entries;
 pub mod known;

@@ -23,7 +23,7 @@ use Rattle.mx_book.proofs.JudgeLemmas.{IsBook-entered}
 use Rattle.mx_book.proofs.PassLemmas.{new-fitting}
 use Rattle.mx_book.proofs.SpanLemmas.{removed_nowhere}
 use Rattle.mx_registers.specs.kept.Changes.{ended_by}
-use Rattle.mx_registers.specs.kept.Moments.{is_during}
+use Rattle.mx_book.specs.Late.{is_during}
 use Rattle.mx_registers.proofs.KeptProofs.CreditLemmas.{all_of, credited_there, serial_kept}
 use Rattle.mx_registers.proofs.KeptProofs.Induction.{of_each_book}
 use Rattle.mx_registers.proofs.KeptProofs.JudgedLemmas.{new-timely}

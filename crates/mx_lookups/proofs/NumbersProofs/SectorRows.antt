@@ -22,7 +22,7 @@ use Rattle.mx_lookups.proofs.NumbersProofs.TableLemmas.{sectors}
 use Rattle.mx_lookups.proofs.NumbersProofs.ReadLemmas.{map_ok}
 
 -- what was read of things that hold rows was read of the rows
-held_read : {X Y V : Type 0} (k : Kept X) (inner : Y → X) (outer : X → Y) → ((x : X) → inner (outer x) ≡ x) → (most : Option ℕ) (order : Row → Row → Ordering) (chosen : Row → Bool) (items : V → List Y) (old new : State) (result : Result V TableFault)
+pub held_read : {X Y V : Type 0} (k : Kept X) (inner : Y → X) (outer : X → Y) → ((x : X) → inner (outer x) ≡ x) → (most : Option ℕ) (order : Row → Row → Ordering) (chosen : Row → Bool) (items : V → List Y) (old new : State) (result : Result V TableFault)
     → ReadsFirst (held k inner) most order chosen items old new result → ReadsFirst k most order chosen (λ v. map inner (items v)) old new result
 held_read k inner outer back most order chosen items old new result r = record {
   rows = λ clean has. map_ok _ _ result (λ v are. subst (AreFirst most order (table_named k.name) chosen old.now.trees) (sym (map-map k.as_cells inner (items v))) are) (r.rows clean has);

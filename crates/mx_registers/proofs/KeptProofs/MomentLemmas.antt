@@ -15,7 +15,8 @@ use Rattle.mx_book.specs.Life.{clock, credited, cycles_of, has_landed_by, is_wit
 use Rattle.mx_book.specs.Register.{register}
 use Rattle.mx_book.specs.Span.{Span, spans, spans_of}
 use Rattle.mx_book.proofs.CommandsProofs.SameLemmas.{text_same}
-use Rattle.mx_registers.specs.kept.Moments.{IsUncut, flown_by, flown_in_all, is_during, landed_by, life_by_moments, sooner, use_more}
+use Rattle.mx_book.specs.Late.{is_during}
+use Rattle.mx_registers.specs.kept.Moments.{IsUncut, flown_by, flown_in_all, landed_by, life_by_moments, sooner, use_more}
 use Rattle.mx_registers.proofs.KeptProofs.CreditLemmas.{IsFlownBy, sectors_flown}
 use Rattle.mx_registers.proofs.KeptProofs.SpanGrowth.{same_sym}
 use Rattle.mx_registers.proofs.KeptProofs.UncutLemmas.{all_uncut}

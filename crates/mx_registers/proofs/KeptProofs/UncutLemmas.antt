@@ -18,7 +18,8 @@ use Rattle.mx_book.specs.Register.{register}
 use Rattle.mx_book.specs.Span.{Span, fitted, span_begun, spans, tail_fitted}
 use Rattle.mx_book.proofs.CommandsProofs.SameLemmas.{text_same}
 use Rattle.mx_registers.specs.kept.Changes.{IsTimed, ended_by}
-use Rattle.mx_registers.specs.kept.Moments.{IsUncut, is_during}
+use Rattle.mx_book.specs.Late.{is_during}
+use Rattle.mx_registers.specs.kept.Moments.{IsUncut}
 use Rattle.mx_registers.proofs.KeptProofs.ClockLemmas.{spans_timed}
 use Rattle.mx_registers.proofs.KeptProofs.CreditLemmas.{IsFlownBy, all_of, sectors_flown}
 use Rattle.mx_registers.proofs.KeptProofs.Induction.{of_each_book}

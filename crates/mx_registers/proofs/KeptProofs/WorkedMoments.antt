@@ -7,7 +7,8 @@ use Rattle.mx_book.specs.declared.commands.sector.Sector.{Sector}
 use Rattle.mx_book.proofs.Worked.{at, used, abcd}
 use Rattle.mx_book.proofs.WorkedFittings.{e1, e2, efgh, on_another}
 use Rattle.mx_registers.specs.Registers.{sector_rows}
-use Rattle.mx_registers.specs.kept.Moments.{flown_by_number, flown_of, is_during, life_by_moments, sooner}
+use Rattle.mx_book.specs.Late.{is_during}
+use Rattle.mx_registers.specs.kept.Moments.{flown_by_number, flown_of, life_by_moments, sooner}
 use Rattle.mx_registers.specs.kept.Spans.{span_rows}
 
 -- E1 was on D-ABCD up to the landing of its sector of 90 minutes at 09:30 on 2024-03-01, and is on D-EFGH since 2024-03-05, which flew two hours that day and two cycles

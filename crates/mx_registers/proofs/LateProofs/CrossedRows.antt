@@ -41,11 +41,11 @@ use Rattle.mx_registers.proofs.KeptProofs.SpanRows.{serial_number_kept, one_numb
 
 -- ── the least of numbers ──
 
-sooner_none : (o : Option ℕ) → sooner o None ≡ o
+pub sooner_none : (o : Option ℕ) → sooner o None ≡ o
 sooner_none None = refl
 sooner_none (Some n) = refl
 
-sooner_assoc : (x y z : Option ℕ) → sooner (sooner x y) z ≡ sooner x (sooner y z)
+pub sooner_assoc : (x y z : Option ℕ) → sooner (sooner x y) z ≡ sooner x (sooner y z)
 sooner_assoc None y z = refl
 sooner_assoc (Some n) None z = refl
 sooner_assoc (Some n) (Some m) None = refl
@@ -56,7 +56,7 @@ sooner_swap None y = sym (sooner_none y)
 sooner_swap (Some n) None = refl
 sooner_swap (Some n) (Some m) = let e : min n m ≡ min m n = omega arith in ap (λ (j : ℕ). Some j) e
 
-least-append : (xs ys : List ℕ) → least (xs ++ ys) ≡ sooner (least xs) (least ys)
+pub least-append : (xs ys : List ℕ) → least (xs ++ ys) ≡ sooner (least xs) (least ys)
 least-append [] ys = refl
 least-append (x ∷ xs) ys = ap (sooner (Some x)) (least-append xs ys) ∙ sym (sooner_assoc (Some x) (least xs) (least ys))
 

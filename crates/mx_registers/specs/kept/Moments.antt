@@ -1,5 +1,5 @@
 -- Lives by moments: what was flown with an aircraft by its landings, and what a component has of it by the moments of its spans.
-use Rattle.std.specs.Prelude.{◌≡◌, ℕ, ◌+◌, ◌-◌, min, nat_eq, nat_le, nat_lt, List, [], ◌∷◌, Bool, true, false, ◌&&◌, Option, Some, None, IfSome, filter}
+use Rattle.std.specs.Prelude.{◌≡◌, ℕ, ◌+◌, ◌-◌, min, nat_eq, nat_le, List, [], ◌∷◌, Bool, true, false, ◌&&◌, Option, Some, None, IfSome, filter}
 use Rattle.std.specs.Option.{option_map}
 use Rattle.mx_base.specs.declared.amounts.Use.{Use}
 use Rattle.mx_base.specs.declared.rows.rows.SectorRow.{SectorRow}
@@ -9,15 +9,12 @@ use Rattle.mx_book.specs.commands.Same.{same_text}
 use Rattle.mx_book.specs.declared.commands.item.Item.{Item}
 use Rattle.mx_book.specs.declared.commands.item.Item.TheVariants.{Airframe, Component}
 use Rattle.mx_book.specs.declared.commands.sector.Sector.{Sector}
+use Rattle.mx_book.specs.Late.{is_during}
 use Rattle.mx_book.specs.Life.{cycles_of, has_landed_by, minutes_of, opening_of}
 use Rattle.mx_book.specs.Register.{register}
 use Rattle.mx_book.specs.Span.{Span, spans_of}
 
 -- ── no sector is cut ──
-
--- the sector was under way at a moment: it had taken off before, and landed later
-abbrev pub is_during : Sector → ℕ → Bool
-is_during s moment = nat_lt s.off moment && nat_lt moment s.on
 
 -- a sector of the span's aircraft was under way neither when the span began nor when it ended
 abbrev pub IsUncut : Sector → Span → Type 0
