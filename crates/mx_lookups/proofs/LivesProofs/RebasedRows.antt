@@ -14,7 +14,7 @@ use Rattle.mx_base.specs.declared.amounts.Base.{Base}
 use Rattle.mx_base.specs.declared.rows.rows.DoneRow.{DoneRow}
 use Rattle.mx_base.specs.rows.Rising.{IsRising}
 use Rattle.mx_base.specs.rows.Rows.{line_key}
-use Rattle.mx_base.proofs.RowsProofs.SortedLemmas.{IsRising-map, sorted_once}
+use Rattle.mx_base.proofs.RowsProofs.SortedLemmas.{IsRising-map}
 use Rattle.mx_book.specs.commands.Act.{Entry, Flown}
 use Rattle.mx_book.specs.commands.Shape.{act_shape}
 use Rattle.mx_book.specs.declared.commands.item.Item.{Item}
@@ -34,39 +34,17 @@ use Rattle.mx_layout.specs.Contents.{rows_in}
 use Rattle.mx_layout.specs.Reading.{by_four}
 use Rattle.mx_layout.specs.Tables.{done3}
 use Rattle.mx_layout.specs.kept.Cells.{kept_done3}
-use Rattle.mx_layout.proofs.KeptProofs.ValueLemmas.{limit_at, limit_back, number_at, text_at}
 use Rattle.mx_table_rows.specs.totals.Remade.{CanRemake, IsRemade}
 use Rattle.mx_table_rows.specs.totals.Several.{AreExactly}
 use Rattle.mx_lookups.specs.numbers.Given.{is_of}
-use Rattle.mx_lookups.specs.numbers.Later.{AreDoneRows, done_credited}
-use Rattle.mx_lookups.proofs.LivesProofs.DoneLookups.{ascending, of_is, place}
-
--- ── an accomplishment by its cells ──
-
-abbrev back : Row → DoneRow
-back row = record {
-  item = number_at row 0;
-  task = text_at row 1;
-  seq = number_at row 2;
-  line = number_at row 3;
-  value = record { minutes = number_at row 4; cycles = number_at row 5; day = number_at row 6 };
-  due = limit_at row 7;
-  base = record { minutes = number_at row 10; cycles = number_at row 11; day = number_at row 12 };
-}
-
-back_is : (row : DoneRow) → back (kept_done3.as_cells row) ≡ row
-back_is r i = record { item = r.item; task = r.task; seq = r.seq; line = r.line; value = r.value; due = limit_back r.due i; base = r.base }
-
-all_back : (rows : List DoneRow) → map back (map kept_done3.as_cells rows) ≡ rows
-all_back [] = refl
-all_back (row ∷ rows) = ap₂ (λ (x : DoneRow) (xs : List DoneRow). x ∷ xs) (back_is row) (all_back rows)
-
--- what has the same cells in another order is the same in another order, whether it fits or not
-same_rows : (xs ys : List DoneRow) → IsPermutation (map kept_done3.as_cells xs) (map kept_done3.as_cells ys) → IsPermutation xs ys
-same_rows xs ys same =
-    subst (λ l. IsPermutation l ys) (all_back xs) (subst (IsPermutation (map back (map kept_done3.as_cells xs))) (all_back ys) (IsPermutation-map back (map kept_done3.as_cells xs) (map kept_done3.as_cells ys) same))
+use Rattle.mx_lookups.specs.numbers.Later.{AreDoneRows}
+use Rattle.mx_lookups.proofs.LivesProofs.DoneOrder.{in_order, of_is, of_task, place}
 
 -- ── what a sector and what a new due leave of a row ──
+
+-- the rows of a task of an item, their values with a sector
+abbrev credited : List Entry → Sector → ℕ → Item → List ℕ → List DoneRow
+credited book s n item id = map (credited_late book (numbers_flown book s) s) (done_rows_of book n item id)
 
 placed_as_before : (book : List Entry) (numbers : List ℕ) (s : Sector) (row : DoneRow) → place row ≡ place (credited_late book numbers s row)
 placed_as_before book numbers s row = at (list_any (nat_eq row.item) numbers && is_behind book s row)
@@ -75,7 +53,7 @@ placed_as_before book numbers s row = at (list_any (nat_eq row.item) numbers && 
     at true = refl
     at false = refl
 
-credited_rise : (book : List Entry) (s : Sector) (n : ℕ) (item : Item) (id : List ℕ) → IsBook book → IsRising place (line_key 1 0) (done_credited book s n item id) (line_key (length book + 1) 0)
+credited_rise : (book : List Entry) (s : Sector) (n : ℕ) (item : Item) (id : List ℕ) → IsBook book → IsRising place (line_key 1 0) (credited book s n item id) (line_key (length book + 1) 0)
 credited_rise book s n item id b =
     IsRising-map (credited_late book (numbers_flown book s) s) place place (placed_as_before book (numbers_flown book s) s) (line_key 1 0) (line_key (length book + 1) 0) (done_rows_of book n item id) (rows_rise book n item id b)
 
@@ -118,10 +96,6 @@ module _ (n : ℕ) (id : List ℕ) where
   abbrev others : Row → Bool
   others row = not (is_of n id row)
 
-  passed : (rows : List DoneRow) → AllByRecursion (λ cells. its cells ≡ true) (map kept_done3.as_cells rows) → AllByRecursion (λ row. is_done_of n id row ≡ true) rows
-  passed [] h = tt
-  passed (row ∷ rows) h = (sym (of_is n id row) ∙ h.0, passed rows h.1)
-
   moved_pass : (old new : Option Base) (rows : List DoneRow) → AllByRecursion (λ row. is_done_of n id row ≡ true) rows → AllByRecursion (λ cells. its cells ≡ true) (map kept_done3.as_cells (moved old new rows))
   moved_pass old new [] h = tt
   moved_pass old new (row ∷ rows) h =
@@ -143,19 +117,6 @@ module _ (n : ℕ) (id : List ℕ) where
         filter-append others made (filter others stored)
         ∙ ap₂ (λ (xs ys : List Row). xs ++ ys) (filter_none others made (all_weaker (λ cells. its cells ≡ true) (λ cells. others cells ≡ false) (λ cells h. ap not h) made pass)) (all_left stored)
 
-  -- ── what was read ──
-
-  were_pass : (stored : List Row) (were : List DoneRow) → AreExactly kept_done3 its stored were → AllByRecursion (λ row. is_done_of n id row ≡ true) were
-  were_pass stored were are =
-      let cells = map kept_done3.as_cells were in
-      passed were (recursion_from_All (λ row. its row ≡ true) cells (All-permutation (λ row. its row ≡ true) (filter its stored) cells are.those (filter_passes its stored)))
-
-  -- rows that rise by their entries and lines are read in this order
-  in_order : (low high : ℕ) (rows : List DoneRow) → IsRising place low rows high → (stored : List Row) → IsPermutation (map kept_done3.as_cells rows) (filter its stored) → (were : List DoneRow) → AreExactly kept_done3 its stored were → were ≡ rows
-  in_order low high rows up stored has were are =
-      let there = same_rows rows were (IsPermutation-trans _ _ _ has are.those) in
-      sym (sorted_once place low 0 high rows were up (ascending n id were are.fit (All-from_recursion (λ row. is_done_of n id row ≡ true) were (were_pass stored were are)) are.sorted) there)
-
   -- ── what is left ──
 
   module _ (old new : Database) (made : IsRemade kept_done3 its (moved None None) old new) where
@@ -163,7 +124,7 @@ module _ (n : ℕ) (id : List ℕ) where
     stored = rows_in done3 old.trees
 
     pass : AllByRecursion (λ cells. its cells ≡ true) (map kept_done3.as_cells (moved None None made.were))
-    pass = moved_pass None None made.were (were_pass stored made.were made.exactly)
+    pass = moved_pass None None made.were (of_task n id stored made.were made.exactly)
 
     those : IsPermutation (map kept_done3.as_cells (moved None None made.were)) (filter its (rows_in done3 new.trees))
     those = subst (λ l. IsPermutation l (filter its (rows_in done3 new.trees))) (those_made (map kept_done3.as_cells (moved None None made.were)) pass stored) (IsPermutation-filter its _ _ made.becomes.rows)
@@ -175,9 +136,9 @@ module _ (n : ℕ) (id : List ℕ) where
     module _ (low high : ℕ) (rows : List DoneRow) (up : IsRising place low rows high) where
       remade_exactly : IsPermutation (map kept_done3.as_cells rows) (filter its stored) → CanRemake kept_done3 its (moved None None) stored → AreExactly kept_done3 its (rows_in done3 new.trees) (moved None None rows)
       remade_exactly has can =
-          let same = in_order low high rows up stored has made.were made.exactly in
+          let same = in_order n id low high rows up stored has made.were made.exactly in
           record {
-            fit = subst (λ l. All kept_done3.Fits (moved None None l)) (in_order low high rows up stored has can.were can.exactly) can.fit;
+            fit = subst (λ l. All kept_done3.Fits (moved None None l)) (in_order n id low high rows up stored has can.were can.exactly) can.fit;
             those = subst (λ l. IsPermutation (filter its (rows_in done3 new.trees)) (map kept_done3.as_cells (moved None None l))) same (IsPermutation-sym _ _ those);
             sorted = moved_sorted None None rows (subst (λ l. IsSorted by_four (map kept_done3.as_cells l)) same made.exactly.sorted);
           }
@@ -193,7 +154,7 @@ module _ (n : ℕ) (id : List ℕ) where
           filter-map others cells all ∙ ap (map cells) (filter_same (λ row. others (cells row)) (λ row. not (is_done_of n id row)) (λ row. ap not (of_is n id row)) all) in
           let there : IsPermutation (map cells rows) (filter its stored) =
           IsPermutation-trans _ _ _ (IsPermutation-map cells rows (filter (is_done_of n id) all) has) (subst (λ l. IsPermutation l (filter its stored)) own (IsPermutation-filter its _ _ given)) in
-          let same = in_order low high rows up stored there made.were made.exactly in
+          let same = in_order n id low high rows up stored there made.were made.exactly in
           let stay : IsPermutation (map cells left) (filter others stored) = subst (λ l. IsPermutation l (filter others stored)) other (IsPermutation-filter others _ _ given) in
           let becomes : IsPermutation (map cells (moved None None rows) ++ filter others stored) (rows_in done3 new.trees) =
           subst (λ l. IsPermutation (map cells (moved None None l) ++ filter others stored) (rows_in done3 new.trees)) same made.becomes.rows in
@@ -203,19 +164,19 @@ module _ (n : ℕ) (id : List ℕ) where
 -- ── those of the book with the sector ──
 
 with_sector : (book : List Entry) (doc : List ℕ) (s : Sector) (n : ℕ) (item : Item) (id : List ℕ) → IsBook book → judge book (entry_of doc (Flown s)) ≡ New → act_shape (Flown s) ≡ true → has_item book item ≡ true → item_at book n ≡ Some item
-    → moved None None (done_credited book s n item id) ≡ done_rows_of (book ++ entry_of doc (Flown s) ∷ []) n item id
+    → moved None None (credited book s n item id) ≡ done_rows_of (book ++ entry_of doc (Flown s) ∷ []) n item id
 with_sector book doc s n item id b new shape known at = sym (late_moved book doc s (numbers_flown book s) n item id b) ∙ credited_rebased book doc s n item id b new shape known at
 
 pub books_exactly : (book : List Entry) (doc : List ℕ) (s : Sector) (n : ℕ) (item : Item) (id : List ℕ) (old new : Database) → IsBook book → judge book (entry_of doc (Flown s)) ≡ New → act_shape (Flown s) ≡ true → has_item book item ≡ true → item_at book n ≡ Some item
-    → AreDoneRows n id old.trees (done_credited book s n item id) → CanRemake kept_done3 (is_of n id) (moved None None) (rows_in done3 old.trees) → IsRemade kept_done3 (is_of n id) (moved None None) old new
+    → AreDoneRows n id old.trees (credited book s n item id) → CanRemake kept_done3 (is_of n id) (moved None None) (rows_in done3 old.trees) → IsRemade kept_done3 (is_of n id) (moved None None) old new
     → AreExactly kept_done3 (is_of n id) (rows_in done3 new.trees) (done_rows_of (book ++ entry_of doc (Flown s) ∷ []) n item id)
 books_exactly book doc s n item id old after b new shape known at has can made =
     subst (AreExactly kept_done3 (is_of n id) (rows_in done3 after.trees)) (with_sector book doc s n item id b new shape known at)
-    (remade_exactly n id old after made (line_key 1 0) (line_key (length book + 1) 0) (done_credited book s n item id) (credited_rise book s n item id b) has can)
+    (remade_exactly n id old after made (line_key 1 0) (line_key (length book + 1) 0) (credited book s n item id) (credited_rise book s n item id b) has can)
 
 pub books_whole : (book : List Entry) (doc : List ℕ) (s : Sector) (n : ℕ) (item : Item) (id : List ℕ) (old new : Database) (rows : List DoneRow) → IsBook book → judge book (entry_of doc (Flown s)) ≡ New → act_shape (Flown s) ≡ true → has_item book item ≡ true → item_at book n ≡ Some item
-    → IsPermutation (map kept_done3.as_cells rows) (rows_in done3 old.trees) → IsPermutation (done_credited book s n item id) (filter (is_done_of n id) rows) → IsRemade kept_done3 (is_of n id) (moved None None) old new
+    → IsPermutation (map kept_done3.as_cells rows) (rows_in done3 old.trees) → IsPermutation (credited book s n item id) (filter (is_done_of n id) rows) → IsRemade kept_done3 (is_of n id) (moved None None) old new
     → IsPermutation (map kept_done3.as_cells (done_rows_of (book ++ entry_of doc (Flown s) ∷ []) n item id ++ filter (λ row. not (is_done_of n id row)) rows)) (rows_in done3 new.trees)
 books_whole book doc s n item id old after rows b new shape known at given has made =
     subst (λ xs. IsPermutation (map kept_done3.as_cells (xs ++ filter (λ row. not (is_done_of n id row)) rows)) (rows_in done3 after.trees)) (with_sector book doc s n item id b new shape known at)
-    (remade_whole n id old after made (line_key 1 0) (line_key (length book + 1) 0) (done_credited book s n item id) (credited_rise book s n item id b) rows given has)
+    (remade_whole n id old after made (line_key 1 0) (line_key (length book + 1) 0) (credited book s n item id) (credited_rise book s n item id b) rows given has)

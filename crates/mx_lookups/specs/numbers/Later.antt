@@ -8,12 +8,10 @@ use Rattle.mx_base.specs.declared.rows.rows.Deferral3Row.{Deferral3Row}
 use Rattle.mx_base.specs.declared.rows.rows.DoneRow.{DoneRow}
 use Rattle.mx_book.specs.commands.Act.{Entry}
 use Rattle.mx_book.specs.declared.commands.item.Item.{Item}
-use Rattle.mx_book.specs.declared.commands.sector.Sector.{Sector}
 use Rattle.mx_book.specs.declared.defects.Defect.{Defect}
 use Rattle.mx_book.specs.due.Due.{IsLife}
 use Rattle.mx_registers.specs.Names.{seq_of_item}
-use Rattle.mx_registers.specs.kept.Totals.{numbers_flown}
-use Rattle.mx_registers.specs.late.Done.{credited_late, done_rows_of, last_base}
+use Rattle.mx_registers.specs.late.Done.{done_rows_of, last_base}
 use Rattle.mx_layout.specs.Contents.{rows_in}
 use Rattle.mx_layout.specs.Tables.{done3}
 use Rattle.mx_layout.specs.declared.fault.Table.TheVariants as table
@@ -35,6 +33,10 @@ rows_accomplished book item id = option_map_or (λ n. done_rows_of book n item i
 abbrev pub Accomplishments : Item → List ℕ → Trees → List DoneRow → Type 0
 Accomplishments item id = GivesBy (ItemNumber item) [] (λ n. Gives kept_done3 (is_of n id) (λ rows. rows))
 
+-- exactly these are the accomplishments of the task of the item with the number, in whatever order they are stored
+abbrev pub AreDoneRows : ℕ → List ℕ → Trees → List DoneRow → Type 0
+AreDoneRows n id trees rows = IsPermutation (map kept_done3.as_cells rows) (filter (is_of n id) (rows_in done3 trees))
+
 -- the base that the last of them leaves
 abbrev pub LastBaseOf : Item → List ℕ → Trees → Option Base → Type 0
 LastBaseOf item id = GivesBy (ItemNumber item) None (λ n. Gives kept_done3 (is_of n id) last_base)
@@ -50,16 +52,6 @@ HasPastDone n id trees = (base : Base) × Gives kept_done3 (is_of n id) last_bas
 -- of those, also where the last leaves a base past a life
 abbrev pub LastBaseDamage : Item → List ℕ → Damage
 LastBaseDamage item id = DamageBy (ItemDamage item) (ItemNumber item) (λ n. Either (Unread kept_done3 (is_of n id)) (Of table.Done3 (HasPastDone n id)))
-
--- ── accomplishments with a new sector ──
-
--- of a book, the rows of a task of the item with a number, their values with a sector, due and base as they were
-abbrev pub done_credited : List Entry → Sector → ℕ → Item → List ℕ → List DoneRow
-done_credited book s n item id = map (credited_late book (numbers_flown book s) s) (done_rows_of book n item id)
-
--- exactly these are the accomplishments of the task of the item with the number, in whatever order they are stored
-abbrev pub AreDoneRows : ℕ → List ℕ → Trees → List DoneRow → Type 0
-AreDoneRows n id trees rows = IsPermutation (map kept_done3.as_cells rows) (filter (is_of n id) (rows_in done3 trees))
 
 -- ── defects ──
 

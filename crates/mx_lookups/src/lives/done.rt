@@ -14,14 +14,15 @@ ghost use Rattle.mx_book.specs.Book.{IsBook};
 ghost use Rattle.mx_book.specs.Judge.{judge};
 ghost use Rattle.mx_registers.specs.Names.{has_item, item_at};
 ghost use Rattle.mx_registers.specs.kept.Changes.{entry_of};
-ghost use Rattle.mx_registers.specs.late.Done.{done_rows_of, is_done_of, last_base};
+ghost use Rattle.mx_registers.specs.kept.Totals.{numbers_flown};
+ghost use Rattle.mx_registers.specs.late.Done.{credited_late, done_rows_of, is_done_of, last_base};
 ghost use Rattle.mx_layout.specs.Contents.{rows_in};
 ghost use Rattle.mx_layout.specs.Tables.{done3};
 ghost use Rattle.mx_layout.specs.kept.Cells.{kept_done3};
 ghost use Rattle.mx_table_rows.specs.totals.Remade.{CanRemake, IsRemade};
 ghost use Rattle.mx_table_rows.specs.totals.Several.{AreExactly};
 ghost use Rattle.mx_lookups.specs.numbers.Given.{is_of};
-ghost use Rattle.mx_lookups.specs.numbers.Later.{Accomplishments, AccomplishmentsDamage, AreDoneRows, LastBaseDamage, LastBaseOf, done_credited, rows_accomplished};
+ghost use Rattle.mx_lookups.specs.numbers.Later.{Accomplishments, AccomplishmentsDamage, AreDoneRows, LastBaseDamage, LastBaseOf, rows_accomplished};
 ghost use Rattle.mx_lookups.specs.numbers.LookUp.{IsLookUpAt};
 ghost use Rattle.mx_lookups.specs.numbers.Reads.{later_point};
 
@@ -107,7 +108,9 @@ pub fn rebased_rows_are_the_books()
         (id : List ℕ) (old new : Database) → IsBook book
         → judge book (entry_of doc (Flown sector)) ≡ New → act_shape (Flown sector) ≡ true
         → has_item book item ≡ true → item_at book number ≡ Some item
-        → AreDoneRows number id old.trees (done_credited book sector number item id)
+        → AreDoneRows number id old.trees
+        (map (credited_late book (numbers_flown book sector) sector)
+        (done_rows_of book number item id))
         → CanRemake kept_done3 (is_of number id) (moved None None) (rows_in done3 old.trees)
         → IsRemade kept_done3 (is_of number id) (moved None None) old new
         → AreExactly kept_done3 (is_of number id) (rows_in done3 new.trees)
@@ -121,8 +124,8 @@ pub fn rebased_rows_are_the_books()
         → judge book (entry_of doc (Flown sector)) ≡ New → act_shape (Flown sector) ≡ true
         → has_item book item ≡ true → item_at book number ≡ Some item
         → IsPermutation (map kept_done3.as_cells rows) (rows_in done3 old.trees)
-        → IsPermutation (done_credited book sector number item id)
-        (filter (is_done_of number id) rows)
+        → IsPermutation (map (credited_late book (numbers_flown book sector) sector)
+        (done_rows_of book number item id)) (filter (is_done_of number id) rows)
         → IsRemade kept_done3 (is_of number id) (moved None None) old new
         → IsPermutation (map kept_done3.as_cells
         (done_rows_of (book ++ entry_of doc (Flown sector) ∷ []) number item id
