@@ -10,6 +10,8 @@
 //!   `looks_up`.
 //! - At layout 3, with the tables of that layout, the accomplishments of a task of an item and the base of the last of
 //!   them: `accomplishments`, `last_base`: `looks_up`.
+//! - What `rebase` of `mx_table_rows` leaves of the accomplishments of a task of an item whose values have a new sector
+//!   are those of the book with the sector, and every other row stays: `rebased_rows_are_the_books`.
 //! - Each task has its shape, and a base is one that an item may have, whatever the tables hold: `task`, `tasks`:
 //!   `shape`; `base`, `last_base`: `bounded`.
 

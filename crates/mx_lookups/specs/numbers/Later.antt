@@ -1,5 +1,5 @@
 -- What the look-ups of layout 3 answer over any rows, and for which of these they tell which table damaged.
-use Rattle.std.specs.Prelude.{◌≡◌, ℕ, pos, List, [], slice_get, Option, None, Some}
+use Rattle.std.specs.Prelude.{◌≡◌, ℕ, pos, List, [], filter, map, slice_get, IsPermutation, Option, None, Some}
 use Rattle.std.specs.Option.{option_map_or}
 use Rattle.sqlite.specs.Tree.{Trees}
 use Rattle.sqlite.specs.declared.types.Value.TheVariants.{Int}
@@ -12,6 +12,8 @@ use Rattle.mx_book.specs.declared.defects.Defect.{Defect}
 use Rattle.mx_book.specs.due.Due.{IsLife}
 use Rattle.mx_registers.specs.Names.{seq_of_item}
 use Rattle.mx_registers.specs.late.Done.{done_rows_of, last_base}
+use Rattle.mx_layout.specs.Contents.{rows_in}
+use Rattle.mx_layout.specs.Tables.{done3}
 use Rattle.mx_layout.specs.declared.fault.Table.TheVariants as table
 use Rattle.mx_layout.specs.kept.Cells.{kept_crs_line, kept_defect3, kept_done3}
 use Rattle.mx_table_rows.specs.chosen.Choices.{has_value, is_any}
@@ -30,6 +32,10 @@ rows_accomplished book item id = option_map_or (λ n. done_rows_of book n item i
 -- the accomplishments of the task with the number of the item
 abbrev pub Accomplishments : Item → List ℕ → Trees → List DoneRow → Type 0
 Accomplishments item id = GivesBy (ItemNumber item) [] (λ n. Gives kept_done3 (is_of n id) (λ rows. rows))
+
+-- exactly these are the accomplishments of the task of the item with the number, in whatever order they are stored
+abbrev pub AreDoneRows : ℕ → List ℕ → Trees → List DoneRow → Type 0
+AreDoneRows n id trees rows = IsPermutation (map kept_done3.as_cells rows) (filter (is_of n id) (rows_in done3 trees))
 
 -- the base that the last of them leaves
 abbrev pub LastBaseOf : Item → List ℕ → Trees → Option Base → Type 0

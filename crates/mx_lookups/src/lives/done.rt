@@ -1,9 +1,28 @@
 //! What was accomplished on items, by the accomplishments of layout 3.
-ghost use Rattle.std.specs.Prelude.{◌≡◌, IfOk, IfSome};
+ghost use Rattle.std.specs.Prelude.{◌≡◌, ℕ, List, [], ◌∷◌, ◌++◌, None, IfOk, IfSome, IsPermutation, filter, map, not, true, Some};
+ghost use Rattle.sqlite.specs.Effect.{Database};
+ghost use Rattle.mx_base.specs.declared.rows.rows.DoneRow.{DoneRow};
+ghost use Rattle.mx_book.specs.commands.Act.{Entry, Flown};
+ghost use Rattle.mx_book.specs.commands.Shape.{act_shape};
+ghost use Rattle.mx_book.specs.declared.commands.item.Item.{Item};
+ghost use Rattle.mx_book.specs.declared.commands.sector.Sector.{Sector};
+ghost use Rattle.mx_book.specs.declared.verdict.Verdict.TheVariants.{New};
 ghost use Rattle.mx_book.specs.due.Due.{IsBase};
+ghost use Rattle.mx_book.specs.due.Moved.{moved};
 ghost use Rattle.mx_book.specs.Base.{base};
-ghost use Rattle.mx_registers.specs.late.Done.{last_base};
-ghost use Rattle.mx_lookups.specs.numbers.Later.{Accomplishments, AccomplishmentsDamage, LastBaseDamage, LastBaseOf, rows_accomplished};
+ghost use Rattle.mx_book.specs.Book.{IsBook};
+ghost use Rattle.mx_book.specs.Judge.{judge};
+ghost use Rattle.mx_registers.specs.Names.{has_item, item_at};
+ghost use Rattle.mx_registers.specs.kept.Changes.{entry_of};
+ghost use Rattle.mx_registers.specs.kept.Totals.{numbers_flown};
+ghost use Rattle.mx_registers.specs.late.Done.{credited_late, done_rows_of, is_done_of, last_base};
+ghost use Rattle.mx_layout.specs.Contents.{rows_in};
+ghost use Rattle.mx_layout.specs.Tables.{done3};
+ghost use Rattle.mx_layout.specs.kept.Cells.{kept_done3};
+ghost use Rattle.mx_table_rows.specs.totals.Remade.{CanRemake, IsRemade};
+ghost use Rattle.mx_table_rows.specs.totals.Several.{AreExactly};
+ghost use Rattle.mx_lookups.specs.numbers.Given.{is_of};
+ghost use Rattle.mx_lookups.specs.numbers.Later.{Accomplishments, AccomplishmentsDamage, AreDoneRows, LastBaseDamage, LastBaseOf, rows_accomplished};
 ghost use Rattle.mx_lookups.specs.numbers.LookUp.{IsLookUpAt};
 ghost use Rattle.mx_lookups.specs.numbers.Reads.{later_point};
 
@@ -79,3 +98,36 @@ pub fn last_base<S: Alter>(
         None => Ok(None),
     }
 }
+
+/// What `rebase` of `mx_table_rows` leaves where the accomplishments of a task of an item are those of a book, their values
+/// with a new sector: exactly those of the book with the sector, due and base too. Over any rows, every other row stays;
+/// so where all rows are accomplishments, those of the book with the sector come in place of the ones of the task. This
+/// does nothing; its contract is the law, and the checker proves it.
+pub fn rebased_rows_are_the_books()
+    ensures exactly { (book : List Entry) (doc : List ℕ) (sector : Sector) (number : ℕ) (item : Item)
+        (id : List ℕ) (old new : Database) → IsBook book
+        → judge book (entry_of doc (Flown sector)) ≡ New → act_shape (Flown sector) ≡ true
+        → has_item book item ≡ true → item_at book number ≡ Some item
+        → AreDoneRows number id old.trees
+        (map (credited_late book (numbers_flown book sector) sector)
+        (done_rows_of book number item id))
+        → CanRemake kept_done3 (is_of number id) (moved None None) (rows_in done3 old.trees)
+        → IsRemade kept_done3 (is_of number id) (moved None None) old new
+        → AreExactly kept_done3 (is_of number id) (rows_in done3 new.trees)
+        (done_rows_of (book ++ entry_of doc (Flown sector) ∷ []) number item id) }
+    ensures others { (number : ℕ) (id : List ℕ) (old new : Database)
+        → IsRemade kept_done3 (is_of number id) (moved None None) old new
+        → IsPermutation (filter (λ row. not (is_of number id row)) (rows_in done3 old.trees))
+        (filter (λ row. not (is_of number id row)) (rows_in done3 new.trees)) }
+    ensures whole { (book : List Entry) (doc : List ℕ) (sector : Sector) (number : ℕ) (item : Item)
+        (id : List ℕ) (old new : Database) (rows : List DoneRow) → IsBook book
+        → judge book (entry_of doc (Flown sector)) ≡ New → act_shape (Flown sector) ≡ true
+        → has_item book item ≡ true → item_at book number ≡ Some item
+        → IsPermutation (map kept_done3.as_cells rows) (rows_in done3 old.trees)
+        → IsPermutation (map (credited_late book (numbers_flown book sector) sector)
+        (done_rows_of book number item id)) (filter (is_done_of number id) rows)
+        → IsRemade kept_done3 (is_of number id) (moved None None) old new
+        → IsPermutation (map kept_done3.as_cells
+        (done_rows_of (book ++ entry_of doc (Flown sector) ∷ []) number item id
+        ++ filter (λ row. not (is_done_of number id row)) rows)) (rows_in done3 new.trees) }
+{}

@@ -16,7 +16,7 @@ use Rattle.mx_book.specs.Base.{base}
 use Rattle.mx_book.specs.Life.{airframe_moments, component_moments, clock, has_landed_by, is_credited}
 use Rattle.mx_book.specs.Programme.{task_at}
 use Rattle.mx_book.specs.Register.{birth}
-use Rattle.mx_book.specs.Span.{Span, tail_fitted}
+use Rattle.mx_book.specs.Span.{Span, is_fitted_to, tail_fitted}
 
 -- the entry with a document that says this
 abbrev pub entry_of : List ℕ → Act → Entry
