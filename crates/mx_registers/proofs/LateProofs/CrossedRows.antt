@@ -27,9 +27,9 @@ use Rattle.mx_registers.proofs.NameLemmas.{tail_known, serial_known}
 use Rattle.mx_registers.proofs.NewLemmas.{fitted_is_known, removed_is_known, released_is_known}
 use Rattle.mx_registers.proofs.RegisterLemmas.{gives-more}
 use Rattle.mx_base.specs.declared.rows.rows.SpanRow.{SpanRow}
-use Rattle.mx_registers.specs.late.Crossings.{Crossing, crossing_at, crossings_by, crossings, crossed_among, sooner, least, crossed_end, crossed_in, crossed_by, crossed_numbers}
+use Rattle.mx_registers.specs.late.Crossings.{sooner, least, crossed_end, crossed_in, crossed_by, crossed_numbers}
 use Rattle.mx_registers.specs.kept.Spans.{span_row, span_rows, span_rows_from, span_ended, spans_opened}
-use Rattle.mx_registers.proofs.LateProofs.CrossingLemmas.{straddle_rows}
+use Rattle.mx_registers.proofs.LateProofs.CrossingLemmas.{Crossing, crossing_at, crossings_by, crossings, crossed_among, straddle_rows}
 use Rattle.mx_registers.proofs.KeptProofs.Induction.{of_each_book}
 use Rattle.mx_registers.proofs.KeptProofs.ItemNumbers.{other_number}
 use Rattle.mx_registers.proofs.KeptProofs.KnownLemmas.{component_kept}

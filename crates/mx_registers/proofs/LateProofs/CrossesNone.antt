@@ -1,33 +1,20 @@
 -- A sector that takes off by the clock of its airframe crosses nothing.
-use Rattle.std.proofs.Common.{arith, refl, ap, ◌∙◌, ◌≡◌, ℕ, ◌+◌, ◌≤◌, zero, suc, length, get_or, List, [], ◌∷◌, ◌++◌, Bool, true, false, cond, ◌&&◌, Option, Some, None, take}
-use Rattle.std.specs.Prelude.{nat_lt, drop, max}
-use Rattle.std.specs.List.{list_all, AllByRecursion}
-use Rattle.std.specs.Option.{option_map, option_map_or, option_or}
+use Rattle.std.proofs.Common.{arith, refl, ap, ◌∙◌, ◌≡◌, ℕ, ◌+◌, ◌≤◌, length, List, [], ◌∷◌, ◌++◌, Bool, true, false, cond, ◌&&◌, Some, None, take}
+use Rattle.std.specs.Prelude.{nat_lt}
 use Rattle.std.proofs.lemmas.Bool.Decides.{nat_tests}
 use Rattle.std.proofs.lemmas.List.{take-append-le}
-use Rattle.mx_book.specs.commands.Act.{Act, Entry, Added, Listed, Loaded, Opened, Flown, Fitted, Removed, Released, Deferred, Extended}
+use Rattle.mx_book.specs.commands.Act.{Act, Entry, Flown, Fitted, Removed, Released}
 use Rattle.mx_book.specs.commands.Same.{same_text}
-use Rattle.mx_book.specs.commands.Shape.{has_shape}
-use Rattle.mx_book.specs.declared.commands.aircraft.Aircraft.{Aircraft}
 use Rattle.mx_book.specs.declared.commands.item.Item.TheVariants.{Airframe}
 use Rattle.mx_book.specs.declared.commands.release.Place.{Place}
 use Rattle.mx_book.specs.declared.commands.release.Place.TheVariants as places
 use Rattle.mx_book.specs.declared.commands.sector.Sector.{Sector}
-use Rattle.mx_book.specs.declared.verdict.Refusal.{Refusal}
-use Rattle.mx_book.specs.declared.verdict.Refusal.TheVariants.{Conflict, OutOfOrder, Overlaps, Straddles}
-use Rattle.mx_book.specs.declared.verdict.Verdict.TheVariants.{Already, Refused}
-use Rattle.mx_book.specs.Register.{aircraft, as_of}
-use Rattle.mx_book.specs.Book.{IsBook, is_new, is_book_from}
-use Rattle.mx_book.specs.Judge.{judge, judge_by, refusals, first_of, verdict_of, clock_passed, known_from}
+use Rattle.mx_book.specs.Book.{IsBook}
 use Rattle.mx_book.specs.Late.{overlaps, overlap_from, is_during, is_aircraft, straddles, straddle_from}
 use Rattle.mx_book.specs.Life.{clock, latest, if_at_aircraft}
-use Rattle.mx_book.proofs.JudgeLemmas.{both_true, is_new-New, IsBook-entered}
 use Rattle.mx_book.specs.Span.{is_fitted_to}
 use Rattle.mx_registers.specs.kept.Changes.{moments_given}
-use Rattle.mx_registers.specs.late.InOrder.{refusals_in_order, judge_in_order, judge_in_order_by, is_in_order_from}
 use Rattle.mx_registers.proofs.KeptProofs.ClockLemmas.{clock-more}
-use Rattle.mx_registers.proofs.KeptProofs.JudgedLemmas.{not_passed}
-use Rattle.mx_registers.proofs.KeptProofs.KnownLemmas.{aircraft-more}
 use Rattle.mx_registers.proofs.KeptProofs.Induction.{of_each_book}
 
 -- ── what a sector crosses among entries with one more ──

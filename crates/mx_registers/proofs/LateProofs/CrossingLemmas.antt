@@ -21,7 +21,8 @@ use Rattle.mx_registers.specs.Names.{or_zero, seq_of_tail, has_item}
 use Rattle.mx_registers.specs.Registers.{gives_by, next, sectors_by, sector_rows}
 use Rattle.mx_base.specs.declared.rows.rows.SectorRow.{SectorRow}
 use Rattle.mx_registers.proofs.NewLemmas.{flown_is_known, fitted_is_known, released_is_known}
-use Rattle.mx_registers.specs.late.Crossings.{Crossing, crossing_at, crossings_by, crossings, crossed_among, overlapped_among}
+use Rattle.mx_registers.specs.late.Crossings.{overlapped_among}
+use Rattle.mx_registers.specs.kept.Items.{number_of_tail}
 use Rattle.mx_registers.proofs.KeptProofs.Induction.{empty_book}
 use Rattle.mx_registers.proofs.KeptProofs.JudgedLemmas.{new-fitted}
 use Rattle.mx_registers.proofs.KeptProofs.KnownLemmas.{aircraft_kept, spans_placed}

@@ -1,5 +1,5 @@
 -- Worked crossings: which entry a sector overlaps and straddles first, in the book and by its rows, counted by hand.
-use Rattle.std.proofs.Common.{refl, ◌≡◌, ℕ, List, [], ◌∷◌, Option, Some, None, ◌++◌}
+use Rattle.std.proofs.Common.{refl, ◌≡◌, List, [], ◌∷◌, Some, None, ◌++◌}
 use Rattle.std.specs.Prelude.{map}
 use Rattle.mx_book.specs.commands.Act.{Entry}
 use Rattle.mx_book.specs.declared.commands.sector.Sector.{Sector}

@@ -2,7 +2,7 @@
 -- What a sector changes is said by the moments of the spans: which items it is credited to, and that the clock of its
 -- airframe is raised to its landing where that is later. Each sector takes off by that clock, so it goes to what is
 -- fitted now; that is a law with this premise, and no definition rests on it.
-use Rattle.std.specs.Prelude.{ℕ, ◌≤◌, List, [], ◌∷◌, Bool, false, Option, Some, IfSome, is_none, filter, ◌&&◌, if◌then◌else◌}
+use Rattle.std.specs.Prelude.{ℕ, ◌≤◌, List, [], ◌∷◌, Option, Some, IfSome, is_none, filter, ◌&&◌, if◌then◌else◌}
 use Rattle.std.specs.Option.{option_map_or, option_and_then}
 use Rattle.mx_base.specs.declared.amounts.Limit.{Limit}
 use Rattle.mx_book.specs.commands.Act.{Act, Entry, Flown, Removed}

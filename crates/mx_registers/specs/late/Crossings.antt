@@ -1,16 +1,9 @@
 -- What a sector overlaps and straddles, by the rows of sectors, of spans and of releases of its aircraft.
 use Rattle.std.specs.Prelude.{ℕ, min, nat_eq, nat_lt, List, [], ◌∷◌, ◌++◌, ◌&&◌, Option, Some, None, find, if◌then◌else◌}
 use Rattle.std.specs.List.{flat_map}
-use Rattle.std.specs.Option.{option_map, option_and_then}
-use Rattle.mx_book.specs.commands.Act.{Act, Entry, Fitted, Removed, Released}
-use Rattle.mx_book.specs.declared.commands.release.Place.{Place}
-use Rattle.mx_book.specs.declared.commands.release.Place.TheVariants as places
+use Rattle.std.specs.Option.{option_map}
 use Rattle.mx_book.specs.declared.commands.sector.Sector.{Sector}
 use Rattle.mx_book.specs.Late.{is_during}
-use Rattle.mx_book.specs.Span.{tail_fitted}
-use Rattle.mx_registers.specs.Names.{or_zero, seq_of_tail}
-use Rattle.mx_registers.specs.Registers.{gives_by, next}
-use Rattle.mx_registers.specs.kept.Items.{number_of_tail}
 use Rattle.mx_base.specs.declared.rows.rows.ReleaseRow.{ReleaseRow}
 use Rattle.mx_base.specs.declared.rows.rows.SpanRow.{SpanRow}
 use Rattle.mx_base.specs.declared.rows.rows.SectorRow.{SectorRow}

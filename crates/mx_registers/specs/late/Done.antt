@@ -1,5 +1,5 @@
 -- The accomplishments of a book as rows: what an item had reached at each, when its task was due then, and the base that this leaves.
-use Rattle.std.specs.Prelude.{⊤, ◌≡◌, ℕ, ◌+◌, ◌-◌, ◌/◌, nat_eq, nat_le, List, [], ◌∷◌, ◌++◌, Bool, false, ◌&&◌, Option, Some, None, filter, fold, map, if◌then◌else◌}
+use Rattle.std.specs.Prelude.{⊤, ◌≡◌, ℕ, ◌+◌, ◌/◌, nat_eq, nat_le, List, [], ◌∷◌, ◌++◌, Bool, false, ◌&&◌, Option, Some, None, filter, fold, map, if◌then◌else◌}
 use Rattle.std.specs.List.{list_any, flat_map}
 use Rattle.std.specs.Option.{option_map_or, option_and_then, unwrap_or}
 use Rattle.mx_base.specs.declared.amounts.Base.{Base}
