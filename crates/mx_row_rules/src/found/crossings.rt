@@ -1,6 +1,7 @@
 //! Rows that were found near a sector that is entered late: which sector it overlaps first, and which fitting, removal or
 //! release it straddles first.
-ghost use Rattle.std.specs.Prelude.{◌≡◌, ℕ, List, filter, map, nat_eq, None, Some};
+ghost use Rattle.std.specs.Prelude.{◌≡◌, ℕ, List, filter, find, map, nat_eq, None, Some};
+ghost use Rattle.std.specs.Option.{option_map};
 ghost use Rattle.mx_base.specs.declared.rows.rows.Sector2Row.{Sector2Row};
 ghost use Rattle.mx_base.specs.declared.rows.rows.SpanRow.{SpanRow};
 ghost use Rattle.mx_base.specs.declared.rows.rows.TotalRow.{TotalRow};
@@ -13,10 +14,10 @@ ghost use Rattle.mx_registers.specs.Registers.{release_rows, sector_rows};
 ghost use Rattle.mx_registers.specs.kept.Spans.{span_rows};
 ghost use Rattle.mx_registers.specs.kept.Totals.{total_rows};
 ghost use Rattle.mx_registers.specs.late.Crossings.{sooner};
-ghost use Rattle.mx_row_rules.specs.found.Crossings.{earliest_overlapping, ended_during, is_near, is_released_near, late_in, late_number, number_during, overlapped_in, straddled_moves, straddled_releases};
+ghost use Rattle.mx_row_rules.specs.found.Crossings.{earliest_overlapping, ended_during, is_near, is_overlapped, is_released_near, late_in, late_number, number_during, overlapped_in, straddled_moves, straddled_releases};
 
 use mx_base::Moment;
-use mx_base::rows::{ReleaseRow, Sector2Row, SpanRow, TotalRow};
+use mx_base::rows::{ReleaseRow, Sector2Row, SectorRow, SpanRow, TotalRow};
 use mx_book::commands::Sector;
 use mx_book::commands::shape::MOST_SECTOR_MINUTES;
 
@@ -38,22 +39,33 @@ pub fn late_in(rows: &[TotalRow], number: u32, sector: &Sector) -> Option<Option
 pub fn earliest_overlapping(sector: &Sector) -> Moment
     ensures { result ≡ earliest_overlapping sector.now }
 {
-    let minutes = sector
-        .off
-        .number()
-        .saturating_sub(MOST_SECTOR_MINUTES - 1);
+    let minutes = sector.off.number().saturating_sub(MOST_SECTOR_MINUTES - 1);
     Moment::of_number(minutes).unwrap_or(Moment::FIRST)
 }
 
+// Whether the sector of the row is under way while this one is.
+fn is_overlapped(sector: &Sector, row: &SectorRow) -> bool
+    ensures { result ≡ is_overlapped sector.now row.now }
+{
+    row.took_off < sector.on && sector.off < row.landed
+}
+
+// The number of the entry of the first of these sectors that is.
+fn first_under_way(rows: &[Sector2Row], sector: &Sector) -> Option<u32>
+    ensures { result ≡ option_map (λ (row : Sector2Row). row.sector.seq)
+        (find (λ (row : Sector2Row). is_overlapped sector.now row.sector) rows.now) }
+{
+    rows.iter()
+        .find(|row| is_overlapped(sector, &row.sector))
+        .map(|row| row.sector.seq)
+}
+
 /// The number of the entry of the first of these sectors that is under way while this one is, or `None` without one.
-#[tactic(auto, using(crate::proofs::FoundProofs::CrossingLemmas::found_held))]
 pub fn overlapped_in(rows: &[Sector2Row], sector: &Sector) -> Option<u32>
     ensures { result
         ≡ overlapped_in sector.now (map (λ (row : Sector2Row). row.sector) rows.now) }
 {
-    rows.iter()
-        .find(|row| row.sector.took_off < sector.on && sector.off < row.sector.landed)
-        .map(|row| row.sector.seq)
+    first_under_way(rows, sector)
 }
 
 /// The lesser of two numbers, or the one that there is.
