@@ -33,7 +33,7 @@ use Rattle.mx_layout.proofs.TreeLemmas.{same_tree}
 use Rattle.mx_layout.proofs.WriteLemmas.{went, same_value}
 use Rattle.mx_tables.proofs.InsertsProofs.SetLemmas.{on_weaker}
 use Rattle.mx_moves.specs.Changes.{emptied, unchanged, AllRise, Reaches, Alters}
-use Rattle.mx_moves.proofs.RowLemmas.{Turns, Forgets, emptied_keeps, not_same, rises_kept}
+use Rattle.mx_moves.proofs.RowLemmas.{Turns, Forgets, emptied_forgets, emptied_keeps, not_same, rises_kept}
 
 -- ── tables that stay ──
 
@@ -80,12 +80,8 @@ old_or_new from to new room name there =
 pub turns_new : (from to : Schema) (new : TableName) → HasNew from to new → Turns from to (emptied new)
 turns_new from to new room name there = elim (old_or_new from to new room name there) [
   | inl had ↦ inl (had, emptied_keeps new name)
-  | inr same ↦ inr (subst (Forgets (emptied new)) same (forgets ((table_named new).tree == (table_named new).tree) refl))
+  | inr same ↦ inr (subst (Forgets (emptied new)) same (emptied_forgets new))
 ]
-  where
-    forgets : (b : Bool) → ((table_named new).tree == (table_named new).tree) ≡ b → Forgets (emptied new) new
-    forgets true e xs ys = subst (λ b. IsPermutation (cond b [] xs) (cond b [] ys)) (sym e) (IsPermutation-refl [])
-    forgets false e xs ys = absurd (not_same (table_named new).tree (table_named new).tree e refl)
 
 -- what a table that is made leaves of the others
 record IsMade (from to : Schema) (t : Table) (s s' : State) : Type 0 where

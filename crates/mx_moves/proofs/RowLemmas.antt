@@ -63,6 +63,13 @@ emptied_keeps new name xs ys same = by ((table_named new).tree == (table_named n
     by true = IsPermutation-refl []
     by false = same
 
+pub emptied_forgets : (new : TableName) → Forgets (emptied new) new
+emptied_forgets new = by ((table_named new).tree == (table_named new).tree) refl
+  where
+    by : (b : Bool) → ((table_named new).tree == (table_named new).tree) ≡ b → Forgets (emptied new) new
+    by true e xs ys = subst (λ b. IsPermutation (cond b [] xs) (cond b [] ys)) (sym e) (IsPermutation-refl [])
+    by false e xs ys = absurd (not_same (table_named new).tree (table_named new).tree e refl)
+
 pub rises_kept : (t : Table) (old new : Trees) → new t.tree ≡ old t.tree → Rises t old → Rises t new
 rises_kept t old new same h = record {
   up = subst IsTable (sym same) h.up;

@@ -3,9 +3,11 @@ pub mod PageLemmas
 pub mod FrontLemmas
 pub mod SectorLemmas
 pub mod ThingLemmas
+pub mod StayLemmas
 pub mod MadeLemmas
 pub mod TurnLemmas
 pub mod PairLemmas
 pub mod ComponentLemmas
 pub mod EndedLemmas
 pub mod WrittenLemmas
+pub mod LaterLemmas

@@ -27,6 +27,14 @@ pub base2_new : HasNew (schema_after 24) (schema_after 25) table.Base2
 unfolding everything
 base2_new = record { is = refl; ends = refl; tree = refl; uncounted = (refl, (refl, (refl, (refl, (refl, (refl, (refl, (refl, (refl, (refl, (refl, (refl, (refl, (refl, (refl, (refl, tt)))))))))))))))) }
 
+pub defect3_new : HasNew (schema_after 28) (schema_after 29) table.Defect3
+unfolding everything
+defect3_new = record { is = refl; ends = refl; tree = refl; uncounted = (refl, (refl, (refl, (refl, (refl, (refl, (refl, (refl, (refl, (refl, (refl, (refl, (refl, (refl, (refl, (refl, (refl, tt))))))))))))))))) }
+
+pub done3_new : HasNew (schema_after 30) (schema_after 31) table.Done3
+unfolding everything
+done3_new = record { is = refl; ends = refl; tree = refl; uncounted = (refl, (refl, (refl, (refl, (refl, (refl, (refl, (refl, (refl, (refl, (refl, (refl, (refl, (refl, (refl, (refl, (refl, tt))))))))))))))))) }
+
 -- ── indexes, which leave the tables as they are ──
 
 pub index_turns : Turns (schema_after 19) (schema_after 21) unchanged
@@ -43,6 +51,15 @@ lines_turn = turns_same (schema_after 26) (schema_after 28) unchanged refl (λ n
 
 pub extensions_turn : Turns (schema_after 27) (schema_after 28) unchanged
 extensions_turn = turns_same (schema_after 27) (schema_after 28) unchanged refl (λ name xs ys same. same)
+
+pub sectors_turn : Turns (schema_after 33) (schema_after 35) unchanged
+sectors_turn = turns_same (schema_after 33) (schema_after 35) unchanged refl (λ name xs ys same. same)
+
+pub releases_turn : Turns (schema_after 34) (schema_after 35) unchanged
+releases_turn = turns_same (schema_after 34) (schema_after 35) unchanged refl (λ name xs ys same. same)
+
+pub layout3_turns : Turns (schema_after 32) (schema_after 35) unchanged
+layout3_turns = turns_same (schema_after 32) (schema_after 35) unchanged refl (λ name xs ys same. same)
 
 -- three indexes, one after another
 pub indexes_then : {T U V : Type 0} (n : ℕ) → Turns (schema_after (n + 1)) (schema_after (n + 3)) unchanged → Turns (schema_after (n + 2)) (schema_after (n + 3)) unchanged → (s0 s1 s2 s3 : State) (t : T) (u : U) (r : Result V TableFault)

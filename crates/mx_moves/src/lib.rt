@@ -27,10 +27,12 @@
 //! - A total is added to `total2`, last bases to `base2`, and nothing else: `insert_total`, `insert_bases`: `writes`.
 //! - A table is made with no row, or dropped, or an index made, and each other table keeps its rows, whatever they are:
 //!   `create_sector2`, `drop_sector1`, `create_span2`, `index_span2`, `drop_fittings`, `create_total2`, `create_base2`,
-//!   `index_registers`: `alters`.
+//!   `index_registers`; of layout 3 `create_defect3`, `drop_defect`, `create_done3`, `drop_base2`, `index_layout3`:
+//!   `alters`.
 #![tactic(auto)]
 
 pub mod install;
+pub mod later_tables;
 pub mod point;
 mod prelude;
 pub mod rows;

@@ -13,8 +13,13 @@
 //!   `written_bases_keep_the_book`, `the_end_of_a_move_keeps_the_book`.
 //! - The next total of a book is that of the next item, and where there is none no item is left:
 //!   `next_totals_are_of_next_items`.
+//! - On the way to layout 3 so do tables with that of deferrals made, or with that of accomplishments made in place of the
+//!   old one of deferrals, and, where the move has ended, without that of last bases:
+//!   `a_new_table_of_deferrals_keeps_the_book`; `a_change_to_accomplishments_keeps_the_book`,
+//!   `the_end_of_the_second_move_keeps_the_book`: `stand`.
 //! - In tables that stand for a book no sector is below the mark, has a number that no entry can have or is left over,
-//!   no row is of another type, fittings and removals of a component take turns, and none is left over, so that none of
-//!   these makes a table damaged: `whole` of the same laws.
+//!   no row is of another type, fittings and removals of a component take turns, and none is left over, nor is a deferral
+//!   or a last base, so that none of these makes a table damaged: `whole` of the same laws.
 
+pub mod later_laws;
 pub mod laws;

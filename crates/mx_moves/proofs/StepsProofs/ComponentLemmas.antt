@@ -16,6 +16,7 @@ use Rattle.mx_base.specs.rows.Rows.{FitsFitting, FitsRemoval, FitsSpan}
 use Rattle.mx_registers.specs.Registers.{fitting_rows, removal_rows}
 use Rattle.mx_registers.proofs.RegisterLemmas.{fitting_rows-rising, removal_rows-rising}
 use Rattle.mx_base.specs.declared.point.Point.{Point}
+use Rattle.mx_registers.specs.declared.points.points.TheConstants.{NEWEST_LAYOUT}
 use Rattle.mx_registers.specs.points.Points.{moving, next_mark, next_point}
 use Rattle.mx_registers.specs.points.Tables.{rows_at, fittings_1, removals_1, spans_2}
 use Rattle.mx_registers.proofs.PointsProofs.MoveLemmas.{spans_moved, fittings_left, removals_left}
@@ -137,9 +138,9 @@ component_stands mark component at to book old new here due_at stood it =
     let spans : it.spans ≡ spans_by book component = (let both : ◌≡◌ {A = Result (List SpanRow) TableName} (Ok it.spans) (Ok (spans_by book component)) = sym it.made_of ∙ made_of in cc) in
     let fits = subst (All FitsSpan) spans (spans_fit it.fittings it.removals it.spans it.fitted.fit it.removed.fit it.made_of) in
     let made = subst (λ q. MakesRows (component_moved (spans_by book component) q) q old new) it.point (subst (λ xs. MakesRows (component_moved xs to) to old new) spans it.made) in
-    let done = stands_next (moving 2 mark) (moving 2 component) book (component_moved (spans_by book component) (moving 2 component)) old new (point_fits 2 mark component (omega arith) (omega arith) refl book b due) (rows_fit mark component book b due old stands fits)
+    let done = stands_next (moving 2 mark) (moving 2 component) book (component_moved (spans_by book component) (moving 2 component)) old new (point_fits NEWEST_LAYOUT 1 2 mark component (omega arith) (omega arith) (omega arith) refl book b due (omega arith) (omega arith)) (rows_fit mark component book b due old stands fits)
     (λ name there. inl (same_tables mark component name there, moved_keeps (spans_by book component) (moving 2 component) name)) (rows_become mark component book b due) stands made in
-    (it.point ∙ sym (next_is 2 mark component (omega arith) (omega arith) refl book b due) ∙ ap (λ q. next_point q book) (sym here), subst (λ q. StandsAt q new book) (sym it.point) done)
+    (it.point ∙ sym (next_is NEWEST_LAYOUT 1 2 mark component (omega arith) (omega arith) (omega arith) refl book b due) ∙ ap (λ q. next_point q book) (sym here), subst (λ q. StandsAt q new book) (sym it.point) done)
 
 pub component_whole : (mark component : ℕ) (at : Point) (book : List Entry) (name : TableName) (trees : Trees) → at ≡ moving 2 mark → next_mark at book ≡ Some component → StandsAt at trees book → IsComponentOff component name trees → ⊥
 component_whole mark component at book name trees here due_at stood off =

@@ -1,5 +1,5 @@
 -- Tables of a file at a point: what they are after a change, and what they stand for.
-use Rattle.std.proofs.Common.{◌≡◌, ◌⊎◌, inl, inr, true, List, sym, subst}
+use Rattle.std.proofs.Common.{◌≡◌, ◌⊎◌, ◌+◌, ◌∙◌, inl, inr, true, List, ap, sym, subst}
 use Rattle.std.specs.List.Sorted.{IsPermutation}
 use Rattle.std.proofs.lemmas.List.Sorted.{IsPermutation-sym, IsPermutation-trans}
 use Rattle.sqlite.specs.Order.{Row}
@@ -8,6 +8,7 @@ use Rattle.sqlite.specs.Effect.{Database}
 use Rattle.sqlite_catalog.specs.Listing.{IsSound}
 use Rattle.mx_book.specs.commands.Act.{Entry}
 use Rattle.mx_base.specs.declared.point.Point.{Point}
+use Rattle.mx_registers.specs.points.Points.{next_point_to}
 use Rattle.mx_layout.specs.TableName.{TableName}
 use Rattle.mx_layout.specs.Contents.{rows_in}
 use Rattle.mx_layout.specs.Names.{table_named}
@@ -18,6 +19,7 @@ use Rattle.mx_book_tables.specs.stands.Stands.{LiesAt, StandsAt}
 use Rattle.mx_book_tables.proofs.StandsProofs.SchemaLemmas.{has_tables}
 use Rattle.mx_moves.specs.Changes.{AllRise, Reaches}
 use Rattle.mx_moves.proofs.RowLemmas.{Keeps, Forgets}
+use Rattle.mx_moves.specs.steps.Next.{next_in_move}
 use Rattle.mx_moves.specs.steps.Rows.{MakesRows}
 
 -- ── as they lie ──
@@ -35,6 +37,12 @@ reaches_rows at to onto old new has lies reached = (
     tables = λ name there. reached.tables name ((has_tables to name).0 there);
   },
 )
+
+-- ── the point ──
+
+-- the next point on the way to a layout is that of the move to it
+pub in_move : (from at to : Point) (book : List Entry) (new : Trees) → at ≡ from → (to ≡ next_point_to (from.layout + 1) at book) × StandsAt to new book → (to ≡ next_in_move at book) × StandsAt to new book
+in_move from at to book new here it = (it.0 ∙ ap (λ (p : Point). next_point_to (p.layout + 1) at book) (sym here), it.1)
 
 -- ── what they stand for ──
 

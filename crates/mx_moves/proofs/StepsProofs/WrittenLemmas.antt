@@ -22,6 +22,7 @@ use Rattle.mx_registers.proofs.KeptProofs.FitLemmas.{totals_fit}
 use Rattle.mx_registers.proofs.KeptProofs.SpanFits.{fittings_fit, removals_fit}
 use Rattle.mx_base.specs.declared.point.Point.{Point}
 use Rattle.mx_registers.specs.points.Moves.{last_moved, totals_next}
+use Rattle.mx_registers.specs.declared.points.points.TheConstants.{NEWEST_LAYOUT}
 use Rattle.mx_registers.specs.points.Points.{moving, next_mark, next_point}
 use Rattle.mx_registers.specs.points.Tables.{bases_2, rows_at, stands_there, totals_2}
 use Rattle.mx_registers.proofs.PointsProofs.MoveLemmas.{bases_written as written_law, totals_moved}
@@ -128,9 +129,9 @@ total_stands mark row at to book old new here due stood it =
     let b = stands.rows.is_book in
     let next = next_item mark row book due in
     let made = subst (λ q. MakesRows (total_written row q) q old new) it.point it.made in
-    let done = stands_next (moving 3 mark) (moving 3 row.item) book (total_written row (moving 3 row.item)) old new (point_fits 3 mark row.item (omega arith) (omega arith) refl book b next) (total_fits mark row book due old stands)
+    let done = stands_next (moving 3 mark) (moving 3 row.item) book (total_written row (moving 3 row.item)) old new (point_fits NEWEST_LAYOUT 1 3 mark row.item (omega arith) (omega arith) (omega arith) refl book b next (omega arith) (omega arith)) (total_fits mark row book due old stands)
     (λ name there. inl (same_at_totals mark row.item name there, total_keeps row (moving 3 row.item) name)) (total_becomes mark row book due) stands made in
-    (it.point ∙ sym (next_is 3 mark row.item (omega arith) (omega arith) refl book b next) ∙ ap (λ q. next_point q book) (sym here), subst (λ q. StandsAt q new book) (sym it.point) done)
+    (it.point ∙ sym (next_is NEWEST_LAYOUT 1 3 mark row.item (omega arith) (omega arith) (omega arith) refl book b next) ∙ ap (λ q. next_point q book) (sym here), subst (λ q. StandsAt q new book) (sym it.point) done)
 
 -- ── the last bases of one item ──
 
@@ -170,6 +171,6 @@ bases_stand mark item rows at to book old new here due stood it =
     let b = stands.rows.is_book in
     let next : next_mark (moving 4 mark) book ≡ Some item = ap (λ q. next_mark q book) (sym here) ∙ due.0 in
     let made = subst (λ q. MakesRows (bases_written rows q) q old new) it.point it.made in
-    let done = stands_next (moving 4 mark) (moving 4 item) book (bases_written rows (moving 4 item)) old new (point_fits 4 mark item (omega arith) (omega arith) refl book b next) (rows_fit mark item rows book next due.1 old stands)
+    let done = stands_next (moving 4 mark) (moving 4 item) book (bases_written rows (moving 4 item)) old new (point_fits NEWEST_LAYOUT 1 4 mark item (omega arith) (omega arith) (omega arith) refl book b next (omega arith) (omega arith)) (rows_fit mark item rows book next due.1 old stands)
     (λ name there. inl (same_at_bases mark item name there, bases_keep rows (moving 4 item) name)) (bases_become mark item rows book next due.1) stands made in
-    (it.point ∙ sym (next_is 4 mark item (omega arith) (omega arith) refl book b next) ∙ ap (λ q. next_point q book) (sym here), subst (λ q. StandsAt q new book) (sym it.point) done)
+    (it.point ∙ sym (next_is NEWEST_LAYOUT 1 4 mark item (omega arith) (omega arith) (omega arith) refl book b next) ∙ ap (λ q. next_point q book) (sym here), subst (λ q. StandsAt q new book) (sym it.point) done)

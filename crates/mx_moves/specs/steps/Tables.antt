@@ -29,9 +29,13 @@ pub record ChangesToSpans (to : Point) (old new : Trees) : Type 0 where
   pub point : to ≡ moving 2 0
   pub made : MakesRows (table_made table.Span2 to) to old new
 
+-- the table is that with the one name, and a row is left in it
+abbrev pub IsRowLeft : TableName → TableName → Trees → Type 0
+IsRowLeft old name trees = (name ≡ old) × (rows_in (table_named old) trees ≢ [])
+
 -- a row is left in the old table of sectors
 abbrev pub IsLeftOver : TableName → Trees → Type 0
-IsLeftOver name trees = (name ≡ table.Sector1) × (rows_in sector1 trees ≢ [])
+IsLeftOver = IsRowLeft table.Sector1
 
 -- the old tables of fittings and removals, which had no row, are gone, that of totals is made, and nothing else changed but the point
 pub record ChangesToTotals (to : Point) (old new : Trees) : Type 0 where
