@@ -8,7 +8,7 @@ use Rattle.sqlite.proofs.Callers.{survives_begin}
 use Rattle.sqlite.proofs.StateLemmas.{survives_then}
 use Rattle.mx_book.specs.commands.Act.{Entry}
 use Rattle.mx_base.specs.declared.point.Point.{Point}
-use Rattle.mx_registers.specs.points.Points.{next_point}
+use Rattle.mx_moves.specs.steps.Next.{next_in_move}
 use Rattle.mx_layout.specs.TableName.{TableName}
 use Rattle.mx_layout.specs.declared.fault.TableFault.{TableFault}
 use Rattle.mx_layout.specs.declared.fault.TableFault.TheVariants as fault
@@ -46,7 +46,7 @@ module _ {S : Type 0} (g : Ghosts S) (old last : Held S) where
       }
 
   module _ (IsAt : Point → Type 0) (IsDue : Point → List Entry → Type 0) (Makes : Point → Point → Trees → Trees → Type 0) (IsOff : Point → TableName → Trees → Type 0)
-      (moves : (at to : Point) (book : List Entry) (before after : Trees) → IsAt at → IsDue at book → StandsAt at before book → Makes at to before after → (to ≡ next_point at book) × StandsAt to after book)
+      (moves : (at to : Point) (book : List Entry) (before after : Trees) → IsAt at → IsDue at book → StandsAt at before book → Makes at to before after → (to ≡ next_in_move at book) × StandsAt to after book)
       (whole : (at : Point) (book : List Entry) (name : TableName) (trees : Trees) → IsAt at → IsDue at book → StandsAt at trees book → IsOff at name trees → ⊥) where
     -- ── the step did not answer ──
 
@@ -112,7 +112,7 @@ module _ {S : Type 0} (g : Ghosts S) (old last : Held S) where
       ran clean at here has lies = runs.made clean (refl, (runs.inside clean refl).was_open) at here has lies
 
       stood : HasCleanDisk (state g last) → (at : Point) (book : List Entry) → (HasCleanDisk (state g old) → IsAt at × IsDue at book) → (state g begun).now.schema ≡ schema_at at → StandsAt at (state g begun).now.trees book
-          → (p ≡ next_point at book) × ((state g last).now.schema ≡ schema_at (next_point at book)) × StandsAt (next_point at book) (state g last).now.trees book
+          → (p ≡ next_in_move at book) × ((state g last).now.schema ≡ schema_at (next_in_move at book)) × StandsAt (next_in_move at book) (state g last).now.trees book
       stood clean at book due has stands =
           let now = due (omega (arith, runs.within.survives.clean)) in
           let it = ran clean at now.0 has stands.lies in
@@ -131,7 +131,7 @@ module _ {S : Type 0} (g : Ghosts S) (old last : Held S) where
 
         commits_whole : LeavesOneBook IsAt IsDue (state g old) (state g end)
         commits_whole at book rests due =
-            commits_either g (schema_at at) (schema_at (next_point at book)) (λ trees. StandsAt at trees book) (λ trees. StandsAt (next_point at book) trees book) old begun last refl rests runs.within runs.inside
+            commits_either g (schema_at at) (schema_at (next_in_move at book)) (λ trees. StandsAt at trees book) (λ trees. StandsAt (next_in_move at book) trees book) old begun last refl rests runs.within runs.inside
             (λ clean within has stands. (let it = stood clean at book due has stands in (it.1, it.2))) end commit
 
         left : (at : Point) → RestsAs (state g old) (schema_at at) (LiesAt at) → (HasCleanDisk (state g old) → IsAt at) → Leaves (state g end) (λ db. (state g old).may_leave db ⊎ (IsTrue (state g old).is_open × ((to : Point) × Makes at to (state g old).now.trees db)))
@@ -169,7 +169,7 @@ module _ {S : Type 0} (g : Ghosts S) (old last : Held S) where
           damaged = λ _ _ _ _. tt;
           moved = λ at book rests due clean. (stood (late clean) at book due (rests.schema (first clean) (opened clean)) (rests.tables (first clean) (opened clean))).0;
           kept = λ at book rests due.
-              commits_ok g (schema_at at) (schema_at (next_point at book)) (λ trees. StandsAt at trees book) (λ trees. StandsAt (next_point at book) trees book) old begun last refl rests runs.within runs.inside
+              commits_ok g (schema_at at) (schema_at (next_in_move at book)) (λ trees. StandsAt at trees book) (λ trees. StandsAt (next_in_move at book) trees book) old begun last refl rests runs.within runs.inside
               (λ clean within has stands. (let it = stood clean at book due has stands in (it.1, it.2))) end commit settled shown;
           same = λ _ _ _. tt;
           whole = λ _ _ _ _ _. tt;
@@ -179,7 +179,7 @@ module _ {S : Type 0} (g : Ghosts S) (old last : Held S) where
 
 module _ {S : Type 0} (g : Ghosts S) (old tx last end final : Held S) (began : tx ≡ record old { in_transaction = true }) (back : end ≡ final)
     (IsAt : Point → Type 0) (IsDue : Point → List Entry → Type 0) (Makes : Point → Point → Trees → Trees → Type 0) (IsOff : Point → TableName → Trees → Type 0)
-    (moves : (at to : Point) (book : List Entry) (before after : Trees) → IsAt at → IsDue at book → StandsAt at before book → Makes at to before after → (to ≡ next_point at book) × StandsAt to after book)
+    (moves : (at to : Point) (book : List Entry) (before after : Trees) → IsAt at → IsDue at book → StandsAt at before book → Makes at to before after → (to ≡ next_in_move at book) × StandsAt to after book)
     (whole : (at : Point) (book : List Entry) (name : TableName) (trees : Trees) → IsAt at → IsDue at book → StandsAt at trees book → IsOff at name trees → ⊥) where
   abbrev Commits : Held S → Result Point MoveFault → Type 0
   Commits h result = CommitsStep IsAt IsDue Makes IsOff (state g old) (state g h) result

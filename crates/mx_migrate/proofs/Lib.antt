@@ -4,5 +4,6 @@ pub mod LengthLemmas
 pub mod LookLemmas
 pub mod WriteLemmas
 pub mod KeepLemmas
+pub mod LaterLemmas
 pub mod ShiftLemmas
 pub mod SettleProofs

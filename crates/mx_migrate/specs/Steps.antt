@@ -5,7 +5,7 @@ use Rattle.sqlite.specs.State.{State, HasCleanDisk}
 use Rattle.sqlite_trees.specs.View.{doubt}
 use Rattle.mx_book.specs.commands.Act.{Entry}
 use Rattle.mx_base.specs.declared.point.Point.{Point}
-use Rattle.mx_registers.specs.points.Points.{next_point}
+use Rattle.mx_moves.specs.steps.Next.{next_in_move}
 use Rattle.mx_layout.specs.TableName.{TableName}
 use Rattle.mx_layout.specs.declared.fault.TableFault.{TableFault}
 use Rattle.mx_layout.specs.declared.fault.TableFault.TheVariants.{Memory, Store, Damaged}
@@ -38,11 +38,11 @@ pub record CommitsStep (IsAt : Point → Type 0) (IsDue : Point → List Entry �
   pub left : (at : Point) → RestsAs old (schema_at at) (LiesAt at) → (HasCleanDisk old → IsAt at) → Leaves new (λ db. old.may_leave db ⊎ (IsTrue old.is_open × ((to : Point) × Makes at to old.now.trees db)))
   pub damaged : (at : Point) → RestsAs old (schema_at at) (LiesAt at) → (HasCleanDisk old → IsAt at) → HasCleanDisk new → IfErr result (λ e. (name : TableName) → e ≡ stop.Damaged name → IsTrue old.is_open × IsOff at name old.now.trees)
   -- where the tables stood for a book at a point at which the step is due: they stand for it at the next point, which is answered; and no table is damaged
-  pub moved : (at : Point) (book : List Entry) → RestsAt at old book → (HasCleanDisk old → IsAt at × IsDue at book) → HasCleanDisk new → IfOk result (λ to. to ≡ next_point at book)
-  pub kept : (at : Point) (book : List Entry) → RestsAt at old book → (HasCleanDisk old → IsAt at × IsDue at book) → OnOk result (RestsAt (next_point at book) new book)
+  pub moved : (at : Point) (book : List Entry) → RestsAt at old book → (HasCleanDisk old → IsAt at × IsDue at book) → HasCleanDisk new → IfOk result (λ to. to ≡ next_in_move at book)
+  pub kept : (at : Point) (book : List Entry) → RestsAt at old book → (HasCleanDisk old → IsAt at × IsDue at book) → OnOk result (RestsAt (next_in_move at book) new book)
   pub same : (at : Point) (book : List Entry) → RestsAt at old book → IfErr result (λ e. e ≢ stop.Store → RestsAt at new book)
   pub whole : (at : Point) (book : List Entry) → RestsAt at old book → (HasCleanDisk old → IsAt at × IsDue at book) → HasCleanDisk new → IfErr result (λ e. (e ≡ stop.Memory) ⊎ (e ≡ stop.Store))
 
 -- a crash leaves the tables that stood for a book, at a point at which the step is due, to stand for it there or at the next point
 abbrev pub LeavesOneBook : (Point → Type 0) → (Point → List Entry → Type 0) → State → State → Type 0
-LeavesOneBook IsAt IsDue old new = (at : Point) (book : List Entry) → RestsAt at old book → (HasCleanDisk old → IsAt at × IsDue at book) → Leaves new (λ trees. StandsAt at trees book ⊎ StandsAt (next_point at book) trees book)
+LeavesOneBook IsAt IsDue old new = (at : Point) (book : List Entry) → RestsAt at old book → (HasCleanDisk old → IsAt at × IsDue at book) → Leaves new (λ trees. StandsAt at trees book ⊎ StandsAt (next_in_move at book) trees book)

@@ -197,6 +197,7 @@ impl Migrate for MoveComponent {
     ghost use Rattle.mx_registers.specs.points.Points.{moving, next_mark};
     ghost use Rattle.mx_moves.specs.steps.Components.{MovesComponent, IsComponentOff};
     ghost use Rattle.mx_moves.proofs.StepsProofs.ComponentLemmas.{component_stands, component_whole};
+    ghost use Rattle.mx_moves.proofs.StepsProofs.StandsLemmas.{in_move};
 
     ghost IsAt = { λ step at. at ≡ moving 2 step.mark };
 
@@ -206,7 +207,9 @@ impl Migrate for MoveComponent {
 
     ghost IsOff = { λ step at. IsComponentOff step.component };
 
-    ghost moves = { λ step. component_stands step.mark step.component };
+    ghost moves = { λ step at to book old new here due stands makes.
+        in_move (moving 2 step.mark) at to book new here
+        (component_stands step.mark step.component at to book old new here due stands makes) };
 
     ghost whole = { λ step. component_whole step.mark step.component };
 

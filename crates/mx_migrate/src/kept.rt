@@ -62,6 +62,7 @@ impl Migrate for WriteTotal {
     ghost use Rattle.mx_registers.specs.points.Points.{moving};
     ghost use Rattle.mx_moves.specs.steps.Written.{WritesTotal};
     ghost use Rattle.mx_moves.proofs.StepsProofs.WrittenLemmas.{total_stands};
+    ghost use Rattle.mx_moves.proofs.StepsProofs.StandsLemmas.{in_move};
 
     ghost IsAt = { λ step at. at ≡ moving 3 step.mark };
 
@@ -71,7 +72,9 @@ impl Migrate for WriteTotal {
 
     ghost IsOff = { λ _ _ _ _. ⊥ };
 
-    ghost moves = { λ step. total_stands step.mark step.row };
+    ghost moves = { λ step at to book old new here due stands makes.
+        in_move (moving 3 step.mark) at to book new here
+        (total_stands step.mark step.row at to book old new here due stands makes) };
 
     ghost whole = { λ _ _ _ _ _ _ _ _ off. off };
 
@@ -106,6 +109,7 @@ impl Migrate for WriteBases {
     ghost use Rattle.mx_registers.specs.points.Points.{moving, next_mark};
     ghost use Rattle.mx_moves.specs.steps.Written.{WritesBases, bases_of};
     ghost use Rattle.mx_moves.proofs.StepsProofs.WrittenLemmas.{bases_stand as written_stand};
+    ghost use Rattle.mx_moves.proofs.StepsProofs.StandsLemmas.{in_move};
 
     ghost IsAt = { λ step at. at ≡ moving 4 step.mark };
 
@@ -116,7 +120,10 @@ impl Migrate for WriteBases {
 
     ghost IsOff = { λ _ _ _ _. ⊥ };
 
-    ghost moves = { λ step. written_stand step.mark step.item step.rows.items };
+    ghost moves = { λ step at to book old new here due stands makes.
+        in_move (moving 4 step.mark) at to book new here
+        (written_stand step.mark step.item step.rows.items at to book old new here due
+        stands makes) };
 
     ghost whole = { λ _ _ _ _ _ _ _ _ off. off };
 

@@ -43,10 +43,17 @@
 //! - So does the one that writes the last bases which it holds, in the same way; it is due where these are those of the
 //!   next item of the book, in any order: `WriteBases`: `Migrate` (`WritesBases`).
 //! - So does the one that makes the last indexes and settles the file at layout 2: `Finish`: `Migrate`.
+//! - On the way to layout 3 so does the one that makes the new table of deferrals, in a file that is settled at layout 2:
+//!   `CreateDeferrals`: `Migrate`.
+//! - So does the one that drops the old table of deferrals, only where it has no row, and makes that of accomplishments:
+//!   `ChangeToAccomplishments`: `Migrate`.
+//! - So does the one that drops the table of last bases, only where it has no row, makes the last indexes and settles the
+//!   file at layout 3: `FinishLater`: `Migrate`.
 #![tactic(auto)]
 
 pub mod components;
 pub mod kept;
+pub mod later_tables;
 mod looking;
 pub mod sectors;
 pub mod settle;
@@ -55,6 +62,7 @@ pub mod tables;
 
 pub use components::MoveComponent;
 pub use kept::{WriteBases, WriteTotal};
+pub use later_tables::{ChangeToAccomplishments, CreateDeferrals, FinishLater};
 pub use mx_registers::points::point_after as next_point;
 pub use sectors::MoveSectors;
 pub use step::{Migrate, commit_step};

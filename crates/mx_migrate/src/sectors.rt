@@ -86,6 +86,7 @@ impl Migrate for MoveSectors {
     ghost use Rattle.mx_registers.specs.points.Points.{moving, next_mark};
     ghost use Rattle.mx_moves.specs.steps.Sectors.{MovesSectors, IsOldOff};
     ghost use Rattle.mx_moves.proofs.StepsProofs.SectorLemmas.{sectors_stand, sectors_whole};
+    ghost use Rattle.mx_moves.proofs.StepsProofs.StandsLemmas.{in_move};
 
     ghost IsAt = { λ step at. at ≡ moving 1 step.mark };
 
@@ -95,7 +96,9 @@ impl Migrate for MoveSectors {
 
     ghost IsOff = { λ step at. IsOldOff step.mark };
 
-    ghost moves = { λ step. sectors_stand step.mark };
+    ghost moves = { λ step at to book old new here due stands makes.
+        in_move (moving 1 step.mark) at to book new here
+        (sectors_stand step.mark at to book old new here due stands makes) };
 
     ghost whole = { λ step. sectors_whole step.mark };
 

@@ -8,9 +8,9 @@ ghost use Rattle.sqlite.specs.Tree.{Trees};
 ghost use Rattle.sqlite.specs.Held.{state};
 ghost use Rattle.mx_book.specs.commands.Act.{Entry};
 ghost use Rattle.mx_base.specs.declared.point.Point.{Point};
-ghost use Rattle.mx_registers.specs.points.Points.{next_point};
 ghost use Rattle.mx_layout.specs.TableName.{TableName};
 ghost use Rattle.mx_book_tables.specs.stands.Stands.{StandsAt};
+ghost use Rattle.mx_moves.specs.steps.Next.{next_in_move};
 ghost use Rattle.mx_migrate.specs.Steps.{Runs, CommitsStep, LeavesOneBook};
 
 use mx_base::Point;
@@ -44,10 +44,11 @@ pub trait Migrate {
         ensures runs { Runs (IsAt self.now) (Makes self.now) (IsOff self.now)
             (state S.Store tx.old.conn.now) (state S.Store tx.new.conn.now) result };
 
-    // What it makes of tables that stand for a book stands for the same book, at the next point.
+    // What it makes of tables that stand for a book stands for the same book, at the next point of the move that the file
+    // is in.
     ghost moves: { (step : Self) (at to : Point) (book : List Entry) (old new : Trees)
         → IsAt step at → IsDue step at book → StandsAt at old book → Makes step at to old new
-        → (to ≡ next_point at book) × StandsAt to new book };
+        → (to ≡ next_in_move at book) × StandsAt to new book };
 
     // Tables that stand for a book are none that are off.
     ghost whole: { (step : Self) (at : Point) (book : List Entry) (name : TableName) (trees : Trees)

@@ -79,6 +79,7 @@ impl Migrate for CreateSectors {
     ghost use Rattle.mx_base.specs.Settled.{settled};
     ghost use Rattle.mx_moves.specs.steps.Tables.{MakesSectors};
     ghost use Rattle.mx_moves.proofs.StepsProofs.MadeLemmas.{made_stands};
+    ghost use Rattle.mx_moves.proofs.StepsProofs.StandsLemmas.{in_move};
 
     ghost IsAt = { λ _ at. at ≡ settled 1 };
 
@@ -88,7 +89,8 @@ impl Migrate for CreateSectors {
 
     ghost IsOff = { λ _ _ _ _. ⊥ };
 
-    ghost moves = { λ _. made_stands };
+    ghost moves = { λ _ at to book old new here due stands makes. in_move (settled 1) at to book new
+        here (made_stands at to book old new here due stands makes) };
 
     ghost whole = { λ _ _ _ _ _ _ _ _ off. off };
 
@@ -134,6 +136,7 @@ impl Migrate for ChangeToSpans {
     ghost use Rattle.mx_registers.specs.points.Points.{is_on_way, moving, next_mark};
     ghost use Rattle.mx_moves.specs.steps.Tables.{ChangesToSpans, IsLeftOver};
     ghost use Rattle.mx_moves.proofs.StepsProofs.MadeLemmas.{changed_stands, changed_whole};
+    ghost use Rattle.mx_moves.proofs.StepsProofs.StandsLemmas.{in_move};
 
     ghost IsAt = { λ step at. (at ≡ moving 1 step.mark) × (is_on_way at ≡ true) };
 
@@ -143,7 +146,9 @@ impl Migrate for ChangeToSpans {
 
     ghost IsOff = { λ step at. IsLeftOver };
 
-    ghost moves = { λ step. changed_stands step.mark };
+    ghost moves = { λ step at to book old new here due stands makes.
+        in_move (moving 1 step.mark) at to book new here.0
+        (changed_stands step.mark at to book old new here due stands makes) };
 
     ghost whole = { λ step. changed_whole step.mark };
 
@@ -179,6 +184,7 @@ impl Migrate for ChangeToTotals {
     ghost use Rattle.mx_registers.specs.points.Points.{is_on_way, moving, next_mark};
     ghost use Rattle.mx_moves.specs.steps.Tables.{ChangesToTotals, IsUnmoved};
     ghost use Rattle.mx_moves.proofs.StepsProofs.EndedLemmas.{totals_stand, totals_whole};
+    ghost use Rattle.mx_moves.proofs.StepsProofs.StandsLemmas.{in_move};
 
     ghost IsAt = { λ step at. (at ≡ moving 2 step.mark) × (is_on_way at ≡ true) };
 
@@ -188,7 +194,9 @@ impl Migrate for ChangeToTotals {
 
     ghost IsOff = { λ step at. IsUnmoved };
 
-    ghost moves = { λ step. totals_stand step.mark };
+    ghost moves = { λ step at to book old new here due stands makes.
+        in_move (moving 2 step.mark) at to book new here.0
+        (totals_stand step.mark at to book old new here due stands makes) };
 
     ghost whole = { λ step. totals_whole step.mark };
 
@@ -225,6 +233,7 @@ impl Migrate for CreateBases {
     ghost use Rattle.mx_registers.specs.points.Points.{is_on_way, moving, next_mark};
     ghost use Rattle.mx_moves.specs.steps.Tables.{MakesBases};
     ghost use Rattle.mx_moves.proofs.StepsProofs.EndedLemmas.{bases_stand};
+    ghost use Rattle.mx_moves.proofs.StepsProofs.StandsLemmas.{in_move};
 
     ghost IsAt = { λ step at. (at ≡ moving 3 step.mark) × (is_on_way at ≡ true) };
 
@@ -234,7 +243,9 @@ impl Migrate for CreateBases {
 
     ghost IsOff = { λ _ _ _ _. ⊥ };
 
-    ghost moves = { λ step. bases_stand step.mark };
+    ghost moves = { λ step at to book old new here due stands makes.
+        in_move (moving 3 step.mark) at to book new here.0
+        (bases_stand step.mark at to book old new here due stands makes) };
 
     ghost whole = { λ _ _ _ _ _ _ _ _ off. off };
 
@@ -264,6 +275,7 @@ impl Migrate for Finish {
     ghost use Rattle.mx_registers.specs.points.Points.{is_on_way, moving, next_mark};
     ghost use Rattle.mx_moves.specs.steps.Tables.{Finishes};
     ghost use Rattle.mx_moves.proofs.StepsProofs.EndedLemmas.{finished_stands};
+    ghost use Rattle.mx_moves.proofs.StepsProofs.StandsLemmas.{in_move};
 
     ghost IsAt = { λ step at. (at ≡ moving 4 step.mark) × (is_on_way at ≡ true) };
 
@@ -273,7 +285,9 @@ impl Migrate for Finish {
 
     ghost IsOff = { λ _ _ _ _. ⊥ };
 
-    ghost moves = { λ step. finished_stands step.mark };
+    ghost moves = { λ step at to book old new here due stands makes.
+        in_move (moving 4 step.mark) at to book new here.0
+        (finished_stands step.mark at to book old new here due stands makes) };
 
     ghost whole = { λ _ _ _ _ _ _ _ _ off. off };
 

@@ -18,6 +18,8 @@ use Rattle.mx_layout.proofs.CrashLemmas.{rests_kept, rests_same}
 use Rattle.mx_book_tables.specs.stands.Schemas.{IsOfFile, schema_at}
 use Rattle.mx_book_tables.specs.stands.Stands.{LiesAt, RestsAt, StandsAt}
 use Rattle.mx_faults.specs.Moving.{fault_from}
+use Rattle.mx_tables.proofs.InsertsProofs.SetLemmas.{on_weaker}
+use Rattle.mx_moves.specs.steps.Next.{next_in_move}
 use Rattle.mx_migrate.specs.Steps.{CommitsStep, LeavesOneBook}
 use Rattle.mx_faults.specs.declared.moving.MoveFault.{MoveFault}
 use Rattle.mx_faults.specs.declared.moving.MoveFault.TheVariants as stop
@@ -25,6 +27,7 @@ use Rattle.mx_verify.specs.declared.derived.kept.KeptRows.{KeptRows}
 use Rattle.mx_migrate.specs.settle.Advances.{Advances, AdvancesBook, AdvancesRows, IsStepOf}
 use Rattle.mx_migrate.specs.settle.Choices.{Chooses, GoesOn, IsUnfit, LiesIn, StandsIn}
 use Rattle.mx_migrate.specs.settle.Due.{IsCalledFor, IsDueAt, IsFor, IsOffFor, MakesBy}
+use Rattle.mx_migrate.specs.settle.DueLaws.{due_next}
 use Rattle.mx_migrate.specs.settle.Found.{KnowsIn, KnowsNow}
 use Rattle.mx_migrate.specs.settle.Items.{Knows}
 use Rattle.mx_migrate.specs.settle.Place.{IsBehind, IsMoveStop, IsPlacedAt, SaysAt, TellsPlace}
@@ -356,17 +359,28 @@ module _ (old mid ready : State) (from : Point) (tells : TellsPlace old mid (Ok 
 
     pub book_commits : (book : List Entry) → (HasCleanDisk old → Knows known book) → (result : Result Point MoveFault) → CommitsStep (IsFor step) (IsDueAt step) (MakesBy step) (IsOffFor step) ready new result → LeavesOneBook (IsFor step) (IsDueAt step) ready new → AdvancesBook book old new result
     book_commits book knows result r left = record {
-      moved = λ at rests. r.moved at book (still at book old ready both rests) (due_here at rests);
-      kept = λ at rests. r.kept at book (still at book old ready both rests) (due_here at rests);
+      moved = λ at rests clean. point_next at (next_here at rests (late clean)) result (r.moved at book (still at book old ready both rests) (due_here at rests) clean);
+      kept = λ at rests. on_weaker result (rests_point new (next_in_move at book) (next_point at book) book (λ clean. next_here at rests (late clean))) (r.kept at book (still at book old ready both rests) (due_here at rests));
       same = λ at rests. r.same at book (still at book old ready both rests);
       whole = λ at file rests. r.whole at book (still at book old ready both rests) (due_here at rests);
-      crash = λ at rests. left at book (still at book old ready both rests) (due_here at rests);
+      crash = λ at rests clean db may. subst (λ p. StandsAt at db book ⊎ StandsAt p db book) (next_here at rests (late clean)) (left at book (still at book old ready both rests) (due_here at rests) clean db may);
     }
       where
+        late : HasCleanDisk new → HasCleanDisk ready
+        late clean = omega (arith, r.clean)
+
         due_here : (at : Point) → RestsAt at old book → HasCleanDisk ready → IsFor step at × IsDueAt step at book
         due_here at rests clean =
             let is = rests_from at book rests (ready_mid clean) in
             (subst (IsFor step) is (c.fits from_file), subst (λ p. IsDueAt step p book) is (c.due book from_file clean (λ is_open. stands_in at book rests (ready_mid clean) is_open) (knows (mid_old (ready_mid clean)))))
+
+        -- the move that the file is in leads to the newest layout
+        next_here : (at : Point) → RestsAt at old book → HasCleanDisk ready → next_in_move at book ≡ next_point at book
+        next_here at rests clean = due_next step at book (due_here at rests clean).0
+
+        point_next : (at : Point) → next_in_move at book ≡ next_point at book → (result : Result Point MoveFault) → IfOk result (λ to. to ≡ next_in_move at book) → IfOk result (λ to. to ≡ next_point at book)
+        point_next at next (Ok to) is = is ∙ next
+        point_next at next (Err e) is = tt
 
     pub knows_behind : (result : Result Point MoveFault) → CommitsStep (IsFor step) (IsDueAt step) (MakesBy step) (IsOffFor step) ready new result → (at : Point) (book : List Entry) → RestsAt at old book → HasCleanDisk new → Knows known book → Knows after book
     knows_behind result r at book rests clean = knows_then (Ok (Some step)) c at book rests (omega (arith, r.clean))
