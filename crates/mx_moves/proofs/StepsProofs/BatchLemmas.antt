@@ -1,5 +1,5 @@
 -- A step that moves the rows of one table to another, at most 64 a commit, whatever the rows are: those that are left and those that come next, what both tables become, and what the tables stand for.
-use Rattle.std.proofs.Common.{◌≡◌, ◌≢◌, inl, ℕ, ◌+◌, ◌<◌, ◌≤◌, ◌^◌, pos, Bool, true, false, not, cond, length, List, [], ◌∷◌, ◌++◌, map, filter, take, All, nat_le, nat_lt, None, refl, sym, ap, subst, ◌∙◌, arith}
+use Rattle.std.proofs.Common.{◌≡◌, ◌≢◌, inl, ℕ, ◌+◌, ◌<◌, ◌≤◌, ◌^◌, pos, Bool, true, false, not, cond, length, List, [], ◌∷◌, ◌++◌, map, filter, take, All, nat_le, None, refl, sym, ap, subst, ◌∙◌, arith}
 use Rattle.std.specs.Prelude.{Contains}
 use Rattle.std.specs.List.Sorted.{IsPermutation}
 use Rattle.std.proofs.lemmas.Bool.Decides.{nat_tests}

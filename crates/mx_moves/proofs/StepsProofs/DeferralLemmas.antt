@@ -1,5 +1,5 @@
 -- The step that moves deferrals: what the tables stand for behind it, and why tables that stand for a book are whole.
-use Rattle.std.proofs.Common.{◌≡◌, ◌≢◌, inl, inr, ℕ, true, [], All, None, map, refl, sym, ap, subst, ◌∙◌, arith}
+use Rattle.std.proofs.Common.{◌≡◌, ◌≢◌, inl, inr, ℕ, true, [], All, None, refl, sym, ap, subst, ◌∙◌, arith}
 use Rattle.std.specs.Prelude.{List}
 use Rattle.std.specs.List.Sorted.{IsPermutation}
 use Rattle.std.proofs.lemmas.List.Elements.{All-append, All-filter, All-map}
@@ -12,7 +12,8 @@ use Rattle.mx_base.specs.declared.rows.rows.DeferralRow.{DeferralRow}
 use Rattle.mx_base.specs.declared.rows.rows.Deferral3Row.{Deferral3Row}
 use Rattle.mx_base.specs.rows.Rows.{FitsDeferral, FitsDeferral3}
 use Rattle.mx_base.specs.declared.point.Point.{Point}
-use Rattle.mx_registers.specs.Registers.{deferral_rows}
+use Rattle.mx_registers.specs.Registers.{deferral_rows, sector_rows}
+use Rattle.mx_registers.specs.kept.Spans.{span_rows}
 use Rattle.mx_registers.specs.late.Found.{found_rows}
 use Rattle.mx_registers.specs.points.Moves.{deferrals_mark, deferrals_next, found_next, last_moved}
 use Rattle.mx_registers.specs.points.Points.{moving_from, next_mark, next_point_to}
@@ -23,8 +24,6 @@ use Rattle.mx_registers.proofs.PointsProofs.OneBook.{all_there}
 use Rattle.mx_registers.proofs.PointsProofs.PointLemmas.{deferrals_moved as moved_law, found_brought}
 use Rattle.mx_registers.proofs.PointsProofs.StandingLemmas.{stand_once}
 use Rattle.mx_registers.proofs.PointsProofs.StepLemmas.{deferrals_next_point}
-use Rattle.mx_registers.specs.Registers.{sector_rows}
-use Rattle.mx_registers.specs.kept.Spans.{span_rows}
 use Rattle.mx_layout.specs.TableName.{TableName}
 use Rattle.mx_layout.specs.declared.fault.Table.TheVariants as table
 use Rattle.mx_layout.specs.Contents.{rows_in}

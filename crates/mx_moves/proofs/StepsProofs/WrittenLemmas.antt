@@ -25,7 +25,7 @@ use Rattle.mx_base.specs.declared.point.Point.{Point}
 use Rattle.mx_registers.specs.points.Moves.{last_moved, totals_next}
 use Rattle.mx_registers.specs.declared.points.points.TheConstants.{NEWEST_LAYOUT}
 use Rattle.mx_registers.specs.points.Points.{moving, next_mark, next_point}
-use Rattle.mx_registers.specs.points.Tables.{bases_2, rows_at, stands_there, totals_2, sectors_2, spans_2}
+use Rattle.mx_registers.specs.points.Tables.{bases_2, rows_at, sectors_2, spans_2, stands_there, totals_2}
 use Rattle.mx_registers.proofs.PointsProofs.MoveLemmas.{bases_written as written_law, totals_moved}
 use Rattle.mx_registers.proofs.PointsProofs.NextLemmas.{bases_next}
 use Rattle.mx_registers.proofs.PointsProofs.OneBook.{filter_through}
