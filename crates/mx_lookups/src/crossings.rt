@@ -1,13 +1,19 @@
 //! What is asked before a sector is entered late: from when on there are records of its aircraft, which sector it overlaps
 //! first, and which fitting, removal or release it straddles first.
-ghost use Rattle.std.specs.Prelude.{◌≡◌};
+ghost use Rattle.std.specs.Prelude.{◌≡◌, filter, nat_eq, pos};
+ghost use Rattle.sqlite.specs.declared.types.Value.TheVariants.{Int};
+ghost use Rattle.mx_base.specs.declared.rows.rows.SpanRow.{SpanRow};
 ghost use Rattle.mx_book.specs.declared.commands.item.Item.TheVariants.{Airframe};
 ghost use Rattle.mx_book.specs.Late.{first_overlapped, first_straddled};
 ghost use Rattle.mx_book.specs.Register.{as_of};
-ghost use Rattle.mx_row_rules.specs.found.Crossings.{late_number};
-ghost use Rattle.mx_lookups.specs.numbers.Crossings.{AsOf, FirstOverlapped, FirstStraddled, LateNumber, OverlappedDamage, StraddledDamage};
+ghost use Rattle.mx_registers.specs.Registers.{release_rows};
+ghost use Rattle.mx_registers.specs.kept.Spans.{span_rows};
+ghost use Rattle.mx_layout.specs.kept.Cells.{kept_crs, kept_span2};
+ghost use Rattle.mx_table_rows.specs.chosen.Choices.{has_value};
+ghost use Rattle.mx_row_rules.specs.found.Crossings.{is_released_near, late_number, straddled_moves, straddled_releases};
+ghost use Rattle.mx_lookups.specs.numbers.Crossings.{AsOf, FirstOverlapped, FirstStraddled, LateNumber, MovedMeanwhile, OverlappedDamage, ReleasedMeanwhile, StraddledDamage, is_released_row};
 ghost use Rattle.mx_lookups.specs.numbers.LookUp.{LooksUp};
-ghost use Rattle.mx_lookups.specs.numbers.Told.{AircraftDamage, TotalDamage};
+ghost use Rattle.mx_lookups.specs.numbers.Told.{AircraftDamage, TotalDamage, Unread};
 
 use crate::numbers::items::aircraft_number;
 use mx_base::{Moment, Tail};
@@ -96,6 +102,42 @@ pub fn first_overlapped<S: Alter>(
     }
 }
 
+// The least number of the entries that began or ended a span of the aircraft with this number while a sector was under way.
+fn moved_meanwhile<S: Alter>(
+    alloc: Global,
+    tx: &mut Transaction<'_, S>,
+    number: u32,
+    sector: &Sector,
+) -> Result<Option<u32>, TableFault>
+    ensures looks_up { LooksUp S.Store
+        (λ book found. found ≡ straddled_moves sector.now
+        (filter (λ (row : SpanRow). nat_eq row.aircraft number) (span_rows book)))
+        (MovedMeanwhile number sector.now)
+        (Unread kept_span2 (has_value 2 (Int (pos number))))
+        tx.old tx.new result }
+{
+    let rows = span2_by_aircraft(alloc, tx, number)?;
+    Ok(straddled_moves(&rows, sector))
+}
+
+// The least number of the releases at the aircraft with this number that were made while a sector was under way.
+fn released_meanwhile<S: Alter>(
+    alloc: Global,
+    tx: &mut Transaction<'_, S>,
+    number: u32,
+    sector: &Sector,
+) -> Result<Option<u32>, TableFault>
+    ensures looks_up { LooksUp S.Store
+        (λ book found. found ≡ straddled_releases sector.now
+        (filter (is_released_near number sector.now) (release_rows book)))
+        (ReleasedMeanwhile number sector.now)
+        (Unread kept_crs (is_released_row number sector.now))
+        tx.old tx.new result }
+{
+    let rows = crs_between(alloc, tx, number, sector.off, sector.on)?;
+    Ok(straddled_releases(&rows, sector))
+}
+
 /// The number of the first entry that fitted a component to the aircraft of a sector, removed one from it or released work
 /// at it while the sector was under way, behind its take-off and before its landing, or `None`. `Damaged` as for the clock
 /// of the airframe; and, where the sector takes off before that, with `span2` where a span of the aircraft can't be read,
@@ -114,10 +156,9 @@ pub fn first_straddled<S: Alter>(
     let late = late_number(alloc, tx, sector)?;
     match late {
         Some(number) => {
-            let spans = span2_by_aircraft(alloc, tx, number)?;
-            let releases = crs_between(alloc, tx, number, sector.off, sector.on)?;
-            let moved = straddled_moves(&spans, sector);
-            Ok(sooner(moved, straddled_releases(&releases, sector)))
+            let moved = moved_meanwhile(alloc, tx, number, sector)?;
+            let released = released_meanwhile(alloc, tx, number, sector)?;
+            Ok(sooner(moved, released))
         }
         None => Ok(None),
     }

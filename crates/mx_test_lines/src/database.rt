@@ -1,6 +1,7 @@
 //! What is asked of the database that files hold, without an office.
 ghost use Rattle.std.specs.Prelude.{◌≡◌, false};
 
+use crate::lookups::answer_of_lookup;
 use crate::moves::answer_of_step;
 use crate::rows::{
     answer_by_rows, entered_by_rows, entries_by_rows, is_entry_by_rows, verdict_by_rows, verified,
@@ -105,7 +106,7 @@ fn statement_of(alloc: Global, words: &[&str]) -> Result<String, AllocError> {
 
 /// What a database answers to a line: `make`, `make-old`, `make-later`, `point`, `tables`, `ask QUERY`, `sql STATEMENT`, `step STEP`,
 /// `enter COMMAND`, `judge COMMAND`, `entries FROM AT_MOST`, `entry NUMBER COMMAND`, `verify`, one of kept rows, one of the rows
-/// of layout 3, or one for a list.
+/// or the look-ups of layout 3, or one for a list.
 pub fn answer_of_database<S: Alter>(
     alloc: Global,
     conn: &mut Connection<S>,
@@ -131,6 +132,7 @@ pub fn answer_of_database<S: Alter>(
         ["enter", command @ ..] => entered_by_rows(alloc, conn, command),
         ["kept", line @ ..] => answer_of_kept_rows(alloc, conn, line),
         ["later", line @ ..] => answer_of_later_rows(alloc, conn, line),
+        ["looked", line @ ..] => answer_of_lookup(alloc, conn, line),
         ["judge", command @ ..] => verdict_by_rows(alloc, conn, command),
         ["rows", question @ ..] => answer_by_rows(alloc, conn, question),
         ["entries", from, at_most] => entries_by_rows(alloc, conn, from, at_most),

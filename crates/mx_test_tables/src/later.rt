@@ -25,7 +25,8 @@ use mx_test_cases::{AnswerText, append_joined, append_number, or_none};
 use sqlite::{Alter, Connection};
 use std::alloc::{AllocError, Global};
 
-fn append_category(out: &mut String, category: Category) -> Result<(), AllocError> {
+/// Appends a category as a word, that of A with its days behind it.
+pub fn append_category(out: &mut String, category: Category) -> Result<(), AllocError> {
     match category {
         Category::A(days) => write!(out, "A {days}"),
         Category::B => out.push_str("B"),
@@ -136,8 +137,8 @@ fn deferrals_found(alloc: Global, found: Result<Vec<Deferral3Row>, TableFault>) 
     }
 }
 
-// Accomplishments that were looked up.
-fn accomplishments_found(alloc: Global, found: Result<Vec<DoneRow>, TableFault>) -> AnswerText {
+/// Accomplishments that were looked up, as `TASK ITEM SEQ LINE value=BASE due=LIMIT base=BASE` each, or the fault that was met.
+pub fn accomplishments_found(alloc: Global, found: Result<Vec<DoneRow>, TableFault>) -> AnswerText {
     match found {
         Ok(found) => Ok(accomplishments_text(alloc, &found)?),
         Err(fault) => fault_text(alloc, fault),

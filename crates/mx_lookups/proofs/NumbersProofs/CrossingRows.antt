@@ -1,5 +1,5 @@
 -- Raw look-ups near a sector that is entered late: what the rows that are chosen are of the book that the tables stand for, at either layout.
-use Rattle.std.proofs.Common.{refl, ap₂, ◌≡◌, ℕ, pos, ◌&&◌, map, filter, nat_eq, Vec, Result, None}
+use Rattle.std.proofs.Common.{refl, subst, ap₂, ◌≡◌, ℕ, pos, ◌&&◌, map, filter, nat_eq, Vec, Result, None}
 use Rattle.std.specs.declared.alloc.Global.{Global}
 use Rattle.sqlite.specs.State.{State}
 use Rattle.sqlite.specs.declared.types.Value.TheVariants.{Int}
@@ -14,6 +14,7 @@ use Rattle.mx_layout.specs.declared.fault.TableFault.{TableFault}
 use Rattle.mx_layout.specs.kept.Cells.{kept_crs, kept_sector2, kept_sector2_rows, kept_span2, kept_total2}
 use Rattle.mx_table_rows.proofs.ChosenProofs.EqualLemmas.{below_number, from_number}
 use Rattle.mx_table_rows.specs.chosen.Calls.{ReadsBy, ReadsFirst}
+use Rattle.mx_table_rows.specs.chosen.Choices.{is_between}
 use Rattle.mx_row_rules.specs.found.Crossings.{earliest_overlapping, is_near, is_released_near}
 use Rattle.mx_lookups.specs.numbers.Crossings.{is_near_row, is_released_row}
 use Rattle.mx_lookups.specs.numbers.Reads.{IsRowsPoint, ReadsAt}
@@ -31,6 +32,12 @@ released_is : (n : ℕ) (s : Sector) (row : ReleaseRow) → is_released_row n s 
 released_is n s row = ap₂ ◌&&◌ (number_is row.item n) (ap₂ ◌&&◌ (from_number row.moment s.off) (below_number row.moment s.on))
 
 -- ── each raw look-up ──
+
+-- from the take-off that was reckoned on
+pub near_from : (n from : ℕ) (s : Sector) → from ≡ earliest_overlapping s → (old new : State) (result : Result (Vec Sector2Row Global) TableFault)
+    → ReadsFirst kept_sector2_rows None kept_sector2_rows.order (is_between 1 (Int (pos n)) 4 (Int (pos from)) (Int (pos s.on))) (λ rows. rows.items) old new result
+    → ReadsFirst kept_sector2_rows None kept_sector2_rows.order (is_near_row n s) (λ rows. rows.items) old new result
+near_from n from s reckoned old new result = subst (λ m. ReadsFirst kept_sector2_rows None kept_sector2_rows.order (is_between 1 (Int (pos n)) 4 (Int (pos m)) (Int (pos s.on))) (λ rows. rows.items) old new result) reckoned
 
 -- the sectors near it behind what holds them
 pub near_held : (n : ℕ) (s : Sector) (old new : State) (result : Result (Vec Sector2Row Global) TableFault) → ReadsFirst kept_sector2_rows None kept_sector2_rows.order (is_near_row n s) (λ rows. rows.items) old new result

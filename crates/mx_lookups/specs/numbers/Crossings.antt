@@ -37,10 +37,17 @@ is_released_row n s = is_between 1 (Int (pos n)) 3 (Int (pos s.off)) (Int (pos s
 abbrev pub FirstOverlapped : Sector → Trees → Option ℕ → Type 0
 FirstOverlapped s = GivesBy (LateNumber s) None (λ n. Gives kept_sector2 (is_near_row n s) (overlapped_in s))
 
--- the least number of the spans of the aircraft and of the releases at it that began, ended or were made meanwhile
+-- the least number of the entries that began or ended a span of the aircraft with a number meanwhile
+abbrev pub MovedMeanwhile : ℕ → Sector → Trees → Option ℕ → Type 0
+MovedMeanwhile n s = Gives kept_span2 (has_value 2 (Int (pos n))) (straddled_moves s)
+
+-- the least number of the releases at it that were made meanwhile
+abbrev pub ReleasedMeanwhile : ℕ → Sector → Trees → Option ℕ → Type 0
+ReleasedMeanwhile n s = Gives kept_crs (is_released_row n s) (straddled_releases s)
+
+-- the sooner of both
 abbrev pub StraddledBy : ℕ → Sector → Trees → Option ℕ → Type 0
-StraddledBy n s trees found = (spans : List SpanRow) × AreChosen kept_span2 None kept_span2.order (has_value 2 (Int (pos n))) trees spans × (releases : List ReleaseRow)
-    × AreChosen kept_crs None kept_crs.order (is_released_row n s) trees releases × (found ≡ sooner (straddled_moves s spans) (straddled_releases s releases))
+StraddledBy n s trees found = (moved : Option ℕ) × (released : Option ℕ) × MovedMeanwhile n s trees moved × ReleasedMeanwhile n s trees released × (found ≡ sooner moved released)
 
 -- that number, where it is late
 abbrev pub FirstStraddled : Sector → Trees → Option ℕ → Type 0

@@ -16,8 +16,8 @@ returns-in-Some g c = record {
       (λ book b found. ap (λ o. option_map_or (λ (a : Aircraft). a.as_of) o 0) (ap aircraft_in found ∙ aircraft_is book c.args.tail.now)));
 }
 
-pub returns-in-None : goal.returns-in-None
-returns-in-None g c = record {
+pub returns : goal.returns
+returns g c = record {
   looks_up =
       let made = ap (λ o. option_map_or (λ (a : Aircraft). a.as_of) o 0) (sym c.in-None.is ∙ c.aircraft_in.ensures ∙ ap aircraft_in c.deref.ensures.value) in
       at_points (λ at is. rows_give (aircraft_at is) (λ rows. option_map_or (λ (a : Aircraft). a.as_of) (aircraft_in rows) 0) c.in_ok-rows.ensures.same_reference (aircraft_of_tail_at is _ c.in_ok-rows.ensures.reads) c.in_ok-rows.ensures.reads made
