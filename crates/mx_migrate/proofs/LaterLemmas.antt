@@ -8,7 +8,7 @@ use Rattle.mx_layout.specs.declared.fault.Table.TheVariants as table
 use Rattle.mx_layout.specs.declared.fault.TableFault.{TableFault}
 use Rattle.mx_layout.specs.Steps.{schema_after}
 use Rattle.mx_layout.proofs.DropLemmas.{none_refer}
-use Rattle.mx_layout.specs.kept.Cells.{kept_base2, kept_defect}
+use Rattle.mx_layout.specs.kept.Cells.{kept_base2, kept_defect, kept_defect3}
 use Rattle.mx_book_tables.specs.stands.Schemas.{schema_at}
 use Rattle.mx_book_tables.proofs.StandsProofs.SchemaLemmas.{point_schema}
 use Rattle.mx_moves.specs.Changes.{Alters, WritesRows, emptied, unchanged}
@@ -34,7 +34,7 @@ accomplishments_is = point_schema (moving_from 2 2 0) (inl refl)
 later_is : schema_at (settled 3) ≡ schema_after 35
 later_is = point_schema (settled 3) (inr refl)
 
-deferrals_point : IsFree kept_point (schema_at (moving_from 2 1 0))
+pub deferrals_point : IsFree kept_point (schema_at (moving_from 2 1 0))
 deferrals_point = (record { rest = _; more = _; is = refl }, none_refer (schema_at (moving_from 2 1 0)).tables refl)
 
 accomplishments_point : IsFree kept_point (schema_at (moving_from 2 2 0))
@@ -42,6 +42,12 @@ accomplishments_point = (record { rest = _; more = _; is = refl }, none_refer (s
 
 later_point : IsFree kept_point (schema_at (settled 3))
 later_point = (record { rest = _; more = _; is = refl }, none_refer (schema_at (settled 3)).tables refl)
+
+pub deferrals_free : IsFree kept_defect (schema_at (moving_from 2 1 0))
+deferrals_free = (record { rest = _; more = _; is = refl }, none_refer (schema_at (moving_from 2 1 0)).tables refl)
+
+pub new_deferrals_there : kept_defect3.IsIn (schema_at (moving_from 2 1 0))
+new_deferrals_there = inl (record { rest = _; more = _; is = refl })
 
 -- ── the tables that are looked at ──
 

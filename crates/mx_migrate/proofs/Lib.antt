@@ -1,4 +1,5 @@
 pub mod CommitLemmas
+pub mod BatchLemmas
 pub mod RunLemmas
 pub mod LengthLemmas
 pub mod LookLemmas

@@ -1,5 +1,5 @@
 -- What the statements of a step do, from what each call does.
-use Rattle.std.proofs.Common.{◌≡◌, ◌⊎◌, inl, inr, ℕ, Bool, true, false, ◌&&◌, List, [], ◌∷◌, map, filter, pos, Some, Ok, Err, Result, IsTrue, refl, sym, ap, subst, ◌∙◌, ◌<◌, arith}
+use Rattle.std.proofs.Common.{◌≡◌, ◌⊎◌, All, inl, inr, ℕ, Bool, true, false, ◌&&◌, List, [], ◌∷◌, map, filter, pos, Some, Ok, Err, Result, IsTrue, refl, sym, ap, subst, ◌∙◌, ◌<◌, arith}
 use Rattle.std.specs.Prelude.{Contains, IsErrAnd, MatchResult}
 use Rattle.std.specs.List.{list_all}
 use Rattle.std.proofs.lemmas.List.{length-map}
@@ -10,10 +10,12 @@ use Rattle.sqlite.specs.Order.{Row}
 use Rattle.sqlite.specs.Tree.{Trees}
 use Rattle.sqlite.specs.Effect.{Database}
 use Rattle.sqlite.specs.State.{State, HasCleanDisk}
+use Rattle.mx_base.specs.declared.rows.rows.DeferralRow.{DeferralRow}
+use Rattle.mx_base.specs.declared.rows.rows.Deferral3Row.{Deferral3Row}
 use Rattle.mx_base.specs.declared.rows.rows.SectorRow.{SectorRow}
 use Rattle.mx_base.specs.declared.point.Point.{Point}
 use Rattle.mx_registers.specs.points.Moves.{last_moved}
-use Rattle.mx_registers.specs.points.Points.{moving}
+use Rattle.mx_registers.specs.points.Points.{moving, moving_from}
 use Rattle.mx_layout.specs.TableName.{TableName}
 use Rattle.mx_layout.specs.declared.fault.Table.TheVariants as table
 use Rattle.mx_layout.specs.declared.fault.TableFault.{TableFault}
@@ -21,18 +23,24 @@ use Rattle.mx_layout.specs.declared.fault.TableFault.TheVariants.{Memory, Store,
 use Rattle.mx_layout.specs.Contents.{rows_in}
 use Rattle.mx_layout.specs.Crash.{IsWithin, StaysInside}
 use Rattle.mx_tables.specs.Calls.{OnDamaged}
-use Rattle.mx_layout.specs.Tables.{sector1}
+use Rattle.mx_tables.specs.inserts.Sets.{IsDamaged}
+use Rattle.mx_layout.specs.Names.{table_named}
+use Rattle.mx_layout.specs.Reading.{HasOther}
+use Rattle.mx_layout.specs.Tables.{defect, sector1}
 use Rattle.mx_layout.proofs.CrashLemmas.{stays_then, within_then}
-use Rattle.mx_layout.specs.kept.Cells.{kept_sector1}
+use Rattle.mx_layout.specs.kept.Cells.{kept_defect, kept_sector1}
+use Rattle.mx_layout.specs.kept.Kept.{Kept}
 use Rattle.mx_layout.specs.kept.Family.{IsReadableAs}
 use Rattle.mx_layout.specs.kept.Schemas.{HasOwn1}
 use Rattle.mx_table_rows.specs.chosen.Calls.{ReadsFirst}
-use Rattle.mx_table_rows.specs.chosen.Choices.{is_any, is_up_to}
+use Rattle.mx_table_rows.specs.chosen.Choices.{AreFirst, is_any, is_up_to}
 use Rattle.mx_book_tables.specs.stands.Schemas.{schema_at}
 use Rattle.mx_book_tables.specs.stands.Stands.{LiesAt}
 use Rattle.mx_moves.specs.Changes.{Alters, AllRise, Reaches, WasOpen}
 use Rattle.mx_moves.specs.steps.Sectors.{is_next_from, sectors_moved, MovesSectors, IsOldOff}
+use Rattle.mx_moves.specs.steps.Deferrals.{AreOthers, deferrals_in, deferrals_moved, is_deferral_next, IsDeferralOff, MovesDeferrals}
 use Rattle.mx_migrate.specs.Steps.{Runs}
+use Rattle.mx_migrate.proofs.LaterLemmas.{has_deferrals}
 use Rattle.mx_moves.specs.steps.Rows.{MakesRows}
 use Rattle.mx_moves.proofs.StepsProofs.FrontLemmas.{front_is}
 use Rattle.mx_moves.proofs.StepsProofs.PageLemmas.{among, page_damaged}
@@ -120,28 +128,18 @@ module _ (IsAt : Point → Type 0) (Makes : Point → Point → Trees → Trees 
         })
     writes_behind new makes (Err e) result answered w = subst (λ a. Ran old new a) (sym answered) (store_stops IsAt Makes IsOff old new (within_then old mid new within (λ clean begun. (stays clean begun).mode) w.within))
 
--- ── sectors that move ──
+-- ── rows that move, the first 64 of a table ──
 
--- the first sectors were read
-abbrev pub ReadsPage : {V : Type 0} → (V → List SectorRow) → State → State → Result V TableFault → Type 0
-ReadsPage items = ReadsFirst kept_sector1 (Some 64) kept_sector1.order is_any items
+-- they were read
+abbrev pub ReadsPage : {X V : Type 0} → Kept X → (V → List X) → State → State → Result V TableFault → Type 0
+ReadsPage k items = ReadsFirst k (Some 64) k.order is_any items
 
-abbrev pub Moves : ℕ → State → State → Result Point TableFault → Type 0
-Moves mark = Runs (λ at. at ≡ moving 1 mark) (λ at to. MovesSectors mark to) (λ at. IsOldOff mark)
-
-pub has_sectors : (mark : ℕ) → HasOwn1 (schema_at (moving 1 mark))
-has_sectors mark = record { rest = _; more = _; is = refl }
-
-has_own : (mark : ℕ) (at : Point) (old : State) → at ≡ moving 1 mark → old.now.schema ≡ schema_at at → HasOwn1 old.now.schema
-has_own mark at old here has = subst HasOwn1 (sym (has ∙ ap schema_at here)) (has_sectors mark)
-
--- they were not read
-pub page_stops : {V : Type 0} (mark : ℕ) (items : V → List SectorRow) (old new : State) (e : TableFault) → ReadsPage items old new (Err e) → Moves mark old new (Err e)
-page_stops mark items old new e r = read_stops _ _ _ table.Sector1 old new e r.cause
-    (λ clean at here has damaged. (refl, inl (page_damaged 64 kept_sector1.order sector1 old.now.trees (IsReadableAs kept_sector1) (r.damaged clean (has_own mark at old here has) (ap Err damaged))))) r.inside r.within
+-- they are these
+abbrev pub IsPage : {X : Type 0} → Kept X → Trees → List X → Type 0
+IsPage k trees rows = AreFirst (Some 64) k.order (table_named k.name) is_any trees (map k.as_cells rows)
 
 -- one of them fails the test
-some_fails : {X : Type 0} (p : X → Bool) (xs : List X) → list_all p xs ≡ false → (x : X) × Contains xs x × (p x ≡ false)
+pub some_fails : {X : Type 0} (p : X → Bool) (xs : List X) → list_all p xs ≡ false → (x : X) × Contains xs x × (p x ≡ false)
 some_fails p [] e = absurd cc
 some_fails p (x ∷ xs) e = at (p x) refl (some_fails p xs)
   where
@@ -152,29 +150,109 @@ some_fails p (x ∷ xs) e = at (p x) refl (some_fails p xs)
 mapped_in : {X Y : Type 0} (f : X → Y) (xs : List X) (x : X) → Contains xs x → Contains (map f xs) (f x)
 mapped_in f xs x (k, low, e) = (k, subst (λ n. k < n) (sym (length-map xs f)) low, get_or-map f xs k x ∙ ap f e)
 
-module _ {V : Type 0} (mark : ℕ) (items : V → List SectorRow) (old mid : State) (v : V) (r : ReadsPage items old mid (Ok v)) where
-  -- one of them has moved before, or has a number that no entry has
-  pub page_off : list_all (is_next_from mark) (items v) ≡ false → Moves mark old mid (Err (Damaged table.Sector1))
-  page_off off = record {
-    made = λ _ _ _ _ _ _. tt;
-    cause = inr (inr (table.Sector1, refl));
-    damaged = λ clean at here has name is.
-        let one = some_fails (is_next_from mark) (items v) off in
-        let same : name ≡ table.Sector1 = cc in
-        (same, inr (one.0, among 64 kept_sector1.order sector1 old.now.trees (map kept_sector1.as_cells (items v)) (r.rows clean (has_own mark at old here has)) (kept_sector1.as_cells one.0) (mapped_in kept_sector1.as_cells (items v) one.0 one.1), one.2));
-    inside = r.inside;
-    within = r.within;
-  }
+-- one of the table fails it
+pub one_fails : {X : Type 0} (k : Kept X) (p : X → Bool) (trees : Trees) (rows : List X) → IsPage k trees rows → list_all p rows ≡ false → (x : X) × Contains (rows_in (table_named k.name) trees) (k.as_cells x) × (p x ≡ false)
+one_fails k p trees rows page fails =
+    let one = some_fails p rows fails in
+    (one.0, among 64 k.order (table_named k.name) trees (map k.as_cells rows) page (k.as_cells one.0) (mapped_in k.as_cells rows one.0 one.1), one.2)
 
-  pub page_full : Moves mark old mid (Err Memory)
-  page_full = memory_stops _ _ _ old mid r.within
+module _ (IsAt : Point → Type 0) (Makes : Point → Point → Trees → Trees → Type 0) (IsOff : Point → TableName → Trees → Type 0) {X V : Type 0} (k : Kept X) (items : V → List X) (here : Point) (at_here : (at : Point) → IsAt at → at ≡ here) (there : k.IsIn (schema_at here)) where
+  has_own : (at : Point) (old : State) → IsAt at → old.now.schema ≡ schema_at at → k.IsIn old.now.schema
+  has_own at old is has = subst k.IsIn (sym (has ∙ ap schema_at (at_here at is))) there
 
-  -- they were moved
-  pub page_moves : {U : Type 0} (new : State) (to : Point) (ran : Result U TableFault) (result : Result Point TableFault) → Reaching to ran result → list_all (is_next_from mark) (items v) ≡ true → to ≡ moving 1 (last_moved (λ (row : SectorRow). row.seq) mark (items v))
-      → Alters (schema_at (moving 1 0)) (schema_at (moving 1 0)) (sectors_moved (items v) to) mid new ran → Moves mark old new result
-  page_moves {U} new to ran result answered next is w = writes_behind _ _ _ (moving 1 mark) to (λ at here. here) (sectors_moved (items v) to) old mid (λ clean at here has. (r.unchanged clean (has_own mark at old here has)).0.now_is) r.inside r.within new
-      (λ clean at here has lies made.
-      let first = r.rows clean (has_own mark at old here has) in
-      let gone = ap (λ (q : Point). filter (is_up_to 0 (Int (pos q.mark))) (rows_in sector1 old.now.trees)) is ∙ front_is seq_of kept_sector1.as_cells (λ _. refl) sector1 (λ _. refl) 63 mark old.now.trees (items v) (lies.rises table.Sector1 ((has_tables (moving 1 mark) table.Sector1).0 refl)) first in
-      record { rows = items v; first = first; fit = r.fits; next = next; point = is; gone = gone; made = made })
-      ran result answered (subst (λ q. Alters {V = U} (schema_at (moving 1 0)) (schema_at q) (sectors_moved (items v) to) mid new ran) (sym is) w)
+  -- they were not read
+  pub batch_stops : ((at : Point) (trees : Trees) → HasOther (IsReadableAs k) (rows_in (table_named k.name) trees) → IsOff at k.name trees) → (old new : State) (e : TableFault) → ReadsPage k items old new (Err e) → Runs IsAt Makes IsOff old new (Err e)
+  batch_stops off old new e r = read_stops IsAt Makes IsOff k.name old new e r.cause
+      (λ clean at is has damaged. off at old.now.trees (page_damaged 64 k.order (table_named k.name) old.now.trees (IsReadableAs k) (r.damaged clean (has_own at old is has) (ap Err damaged)))) r.inside r.within
+
+  module _ (old mid : State) (v : V) (r : ReadsPage k items old mid (Ok v)) where
+    -- there was no room for more
+    pub batch_full : Runs IsAt Makes IsOff old mid (Err Memory)
+    batch_full = memory_stops IsAt Makes IsOff old mid r.within
+
+    -- the table is off
+    pub batch_off : ((at : Point) → IsPage k old.now.trees (items v) → All k.Fits (items v) → IsOff at k.name old.now.trees) → Runs IsAt Makes IsOff old mid (Err (Damaged k.name))
+    batch_off off = record {
+      made = λ _ _ _ _ _ _. tt;
+      cause = inr (inr (k.name, refl));
+      damaged = λ clean at is has name told. (let same : k.name ≡ name = cc in subst (λ n. IsOff at n old.now.trees) same (off at (r.rows clean (has_own at old is has)) r.fits));
+      inside = r.inside;
+      within = r.within;
+    }
+
+    -- they were moved
+    pub batch_moves : {U : Type 0} (new : State) (to : Point) (onto : TableName → List Row → List Row) (ran : Result U TableFault) (result : Result Point TableFault) → Reaching to ran result → Alters (schema_at here) (schema_at to) onto mid new ran
+        → ((at : Point) → LiesAt here old.now.trees → IsPage k old.now.trees (items v) → MakesRows onto to old.now.trees new.now.trees → Makes at to old.now.trees new.now.trees) → Runs IsAt Makes IsOff old new result
+    batch_moves new to onto ran result answered w makes =
+        writes_behind IsAt Makes IsOff here to at_here onto old mid (λ clean at is has. (r.unchanged clean (has_own at old is has)).0.now_is) r.inside r.within new
+        (λ clean at is has lies made. makes at lies (r.rows clean (has_own at old is has)) made) ran result answered w
+
+-- ── sectors that move ──
+
+abbrev pub Moves : ℕ → State → State → Result Point TableFault → Type 0
+Moves mark = Runs (λ at. at ≡ moving 1 mark) (λ at to. MovesSectors mark to) (λ at. IsOldOff mark)
+
+pub has_sectors : (mark : ℕ) → HasOwn1 (schema_at (moving 1 mark))
+has_sectors mark = record { rest = _; more = _; is = refl }
+
+module _ {V : Type 0} (mark : ℕ) (items : V → List SectorRow) where
+  pub page_stops : (old new : State) (e : TableFault) → ReadsPage kept_sector1 items old new (Err e) → Moves mark old new (Err e)
+  page_stops = batch_stops (λ at. at ≡ moving 1 mark) (λ at to. MovesSectors mark to) (λ at. IsOldOff mark) kept_sector1 items (moving 1 mark) (λ at here. here) (has_sectors mark) (λ at trees damaged. (refl, inl damaged))
+
+  module _ (old mid : State) (v : V) (r : ReadsPage kept_sector1 items old mid (Ok v)) where
+    -- one of them has moved before, or has a number that no entry has
+    pub page_off : list_all (is_next_from mark) (items v) ≡ false → Moves mark old mid (Err (Damaged table.Sector1))
+    page_off off =
+        batch_off (λ at. at ≡ moving 1 mark) (λ at to. MovesSectors mark to) (λ at. IsOldOff mark) kept_sector1 items (moving 1 mark) (λ at here. here) (has_sectors mark) old mid v r
+        (λ at page fits. (refl, inr (one_fails kept_sector1 (is_next_from mark) old.now.trees (items v) page off)))
+
+    pub page_full : Moves mark old mid (Err Memory)
+    page_full = batch_full (λ at. at ≡ moving 1 mark) (λ at to. MovesSectors mark to) (λ at. IsOldOff mark) kept_sector1 items (moving 1 mark) (λ at here. here) (has_sectors mark) old mid v r
+
+    pub page_moves : {U : Type 0} (new : State) (to : Point) (ran : Result U TableFault) (result : Result Point TableFault) → Reaching to ran result → list_all (is_next_from mark) (items v) ≡ true → to ≡ moving 1 (last_moved (λ (row : SectorRow). row.seq) mark (items v))
+        → Alters (schema_at (moving 1 0)) (schema_at (moving 1 0)) (sectors_moved (items v) to) mid new ran → Moves mark old new result
+    page_moves {U} new to ran result answered next is w =
+        batch_moves (λ at. at ≡ moving 1 mark) (λ at to. MovesSectors mark to) (λ at. IsOldOff mark) kept_sector1 items (moving 1 mark) (λ at here. here) (has_sectors mark) old mid v r new to (sectors_moved (items v) to) ran result answered
+        (subst (λ q. Alters {V = U} (schema_at (moving 1 0)) (schema_at q) (sectors_moved (items v) to) mid new ran) (sym is) w)
+        (λ at lies first made.
+        let gone = ap (λ (q : Point). filter (is_up_to 0 (Int (pos q.mark))) (rows_in sector1 old.now.trees)) is
+        ∙ front_is seq_of kept_sector1.as_cells (λ _. refl) sector1 (λ _. refl) 63 mark old.now.trees (items v) (lies.rises table.Sector1 ((has_tables (moving 1 mark) table.Sector1).0 refl)) first in
+        record { rows = items v; first = first; fit = r.fits; next = next; point = is; gone = gone; made = made })
+
+-- ── deferrals that move ──
+
+abbrev pub MovesOn : ℕ → List Deferral3Row → State → State → Result Point TableFault → Type 0
+MovesOn mark rows = Runs (λ at. at ≡ moving_from 2 1 mark) (λ at to. MovesDeferrals mark rows to) (λ at. IsDeferralOff mark rows)
+
+module _ {V : Type 0} (mark : ℕ) (rows : List Deferral3Row) (items : V → List DeferralRow) where
+  pub deferrals_stop : (old new : State) (e : TableFault) → ReadsPage kept_defect items old new (Err e) → MovesOn mark rows old new (Err e)
+  deferrals_stop = batch_stops (λ at. at ≡ moving_from 2 1 mark) (λ at to. MovesDeferrals mark rows to) (λ at. IsDeferralOff mark rows) kept_defect items (moving_from 2 1 mark) (λ at here. here) (has_deferrals mark) (λ at trees damaged. (refl, inl damaged))
+
+  module _ (old mid : State) (v : V) (r : ReadsPage kept_defect items old mid (Ok v)) where
+    -- one of them has moved before, or has a number that no entry has, or they are others than those that were handed in
+    pub deferrals_off : (deferrals_in rows ≡ items v → list_all (is_deferral_next mark) (items v) ≡ true → ⊥) → MovesOn mark rows old mid (Err (Damaged table.Defect))
+    deferrals_off off =
+        batch_off (λ at. at ≡ moving_from 2 1 mark) (λ at to. MovesDeferrals mark rows to) (λ at. IsDeferralOff mark rows) kept_defect items (moving_from 2 1 mark) (λ at here. here) (has_deferrals mark) old mid v r
+        (λ at page fits. (refl, why page fits (list_all (is_deferral_next mark) (items v)) refl))
+      where
+        why : IsPage kept_defect old.now.trees (items v) → All kept_defect.Fits (items v) → (b : Bool) → list_all (is_deferral_next mark) (items v) ≡ b
+            → IsDamaged old.now.trees table.Defect ⊎ (((row : DeferralRow) × Contains (rows_in defect old.now.trees) (kept_defect.as_cells row) × (is_deferral_next mark row ≡ false)) ⊎ AreOthers rows old.now.trees)
+        why page fits true next = inr (inr (items v, page, fits, λ same. off (sym same) next))
+        why page fits false passed = inr (inl (one_fails kept_defect (is_deferral_next mark) old.now.trees (items v) page passed))
+
+    pub deferrals_move : {U : Type 0} (new : State) (to : Point) (ran : Result U TableFault) (result : Result Point TableFault) → Reaching to ran result → items v ≡ deferrals_in rows → list_all (is_deferral_next mark) (items v) ≡ true → to ≡ moving_from 2 1 (last_moved (λ (row : DeferralRow). row.seq) mark (items v))
+        → Alters (schema_at (moving_from 2 1 0)) (schema_at (moving_from 2 1 0)) (deferrals_moved rows to) mid new ran → MovesOn mark rows old new result
+    deferrals_move {U} new to ran result answered same next is w =
+        batch_moves (λ at. at ≡ moving_from 2 1 mark) (λ at to. MovesDeferrals mark rows to) (λ at. IsDeferralOff mark rows) kept_defect items (moving_from 2 1 mark) (λ at here. here) (has_deferrals mark) old mid v r new to (deferrals_moved rows to) ran result answered
+        (subst (λ q. Alters {V = U} (schema_at (moving_from 2 1 0)) (schema_at q) (deferrals_moved rows to) mid new ran) (sym is) w)
+        (λ at lies first made.
+        let gone = ap (λ (q : Point). filter (is_up_to 0 (Int (pos q.mark))) (rows_in defect old.now.trees)) is
+        ∙ front_is (λ (row : DeferralRow). row.seq) kept_defect.as_cells (λ _. refl) defect (λ _. refl) 63 mark old.now.trees (items v) (lies.rises table.Defect ((has_tables (moving_from 2 1 mark) table.Defect).0 refl)) first in
+        record {
+          first = subst (λ (xs : List DeferralRow). IsPage kept_defect old.now.trees xs) same first;
+          fit = subst (λ (xs : List DeferralRow). All kept_defect.Fits xs) same r.fits;
+          next = subst (λ (xs : List DeferralRow). list_all (is_deferral_next mark) xs ≡ true) same next;
+          point = is ∙ ap (λ (xs : List DeferralRow). moving_from 2 1 (last_moved (λ row. row.seq) mark xs)) same;
+          gone = gone ∙ ap (map kept_defect.as_cells) same;
+          made = made;
+        })

@@ -18,6 +18,7 @@ use Rattle.mx_layout.specs.Steps.{schema_after}
 use Rattle.mx_layout.proofs.DropLemmas.{none_refer}
 use Rattle.mx_layout.specs.kept.Cells.{kept_fit1, kept_removal1, kept_sector1, kept_sector2, kept_sector2_rows, kept_span2}
 use Rattle.mx_layout.specs.kept.Family.{on_top}
+use Rattle.mx_layout.specs.kept.Kept.{Kept}
 use Rattle.mx_table_rows.specs.chosen.Choices.{is_up_to}
 use Rattle.mx_book_tables.specs.stands.Schemas.{schema_at}
 use Rattle.mx_book_tables.proofs.StandsProofs.SchemaLemmas.{file_schema}
@@ -27,10 +28,11 @@ use Rattle.mx_moves.specs.Schemas.{IsFree}
 use Rattle.mx_moves.proofs.AlterLemmas.{turns_new}
 use Rattle.mx_moves.proofs.RowLemmas.{alters_then, less_keeps, rows_alter, turns_same}
 use Rattle.mx_moves.proofs.TableTexts.{indexes_turn, span2_new}
+use Rattle.mx_moves.specs.steps.Batches.{batch_moved}
 use Rattle.mx_moves.specs.steps.Components.{component_moved, is_of_component}
 use Rattle.mx_moves.specs.steps.Sectors.{sectors_moved}
 use Rattle.mx_moves.specs.steps.Tables.{table_made}
-use Rattle.mx_moves.proofs.StepsProofs.SectorLemmas.{point_keeps}
+use Rattle.mx_moves.proofs.StepsProofs.BatchLemmas.{point_keeps}
 
 -- ── the schemas ──
 
@@ -61,6 +63,18 @@ module _ {T U : Type 0} (from to : Schema) (onto : TableName → List Row → Li
   pub point_then : Alters {V = T} from to onto s m (Ok t) → WritesRows (IsFree kept_point) (point_set p) m s' r → Alters from to (λ name rows. point_set p name (onto name rows)) s s' r
   point_then a w = alters_then from to to onto (point_set p) (turns_same to to (point_set p) refl (point_keeps p)) s m s' t r a (rows_alter (IsFree kept_point) to (point_set p) m s' r free w)
 
+-- ── rows that move from one table to another ──
+
+pub batch_then : {Old New T U V : Type 0} (old : Kept Old) (new : Kept New) (at : Schema) → new.IsIn at → IsFree old at → IsFree kept_point at → (rows : List New) (p : Point) (s0 s1 s2 s3 : State) (t : T) (u : U) (r : Result V TableFault)
+    → WritesRows {V = T} new.IsIn (on_top new rows) s0 s1 (Ok t) → WritesRows {V = U} (IsFree old) (less old (is_up_to 0 (Int (pos p.mark)))) s1 s2 (Ok u) → WritesRows (IsFree kept_point) (point_set p) s2 s3 r
+    → Alters at at (batch_moved old new rows p) s0 s3 r
+batch_then old new at there old_free point_free rows p s0 s1 s2 s3 t u r a b c =
+    let gone = less old (is_up_to 0 (Int (pos p.mark))) in
+    let one = rows_alter new.IsIn at (on_top new rows) s0 s1 (Ok t) there a in
+    let two = rows_alter (IsFree old) at gone s1 s2 (Ok u) old_free b in
+    let both = alters_then at at at (on_top new rows) gone (turns_same at at gone refl (less_keeps old (is_up_to 0 (Int (pos p.mark))))) s0 s1 s2 t (Ok u) one two in
+    point_then at at (λ name more. gone name (on_top new rows name more)) p point_free s0 s2 s3 u r both c
+
 -- ── sectors ──
 
 abbrev with_cells : List Row → TableName → List Row → List Row
@@ -73,13 +87,10 @@ as_sectors rows = ap with_cells (sym (map-map kept_sector2.as_cells (λ (row : S
 pub moved_then : {T U V : Type 0} (rows : List Sector2Row) (p : Point) (s0 s1 s2 s3 : State) (t : T) (u : U) (r : Result V TableFault)
     → WritesRows {V = T} kept_sector2_rows.IsIn (on_top kept_sector2_rows rows) s0 s1 (Ok t) → WritesRows {V = U} (IsFree kept_sector1) (less kept_sector1 (is_up_to 0 (Int (pos p.mark)))) s1 s2 (Ok u) → WritesRows (IsFree kept_point) (point_set p) s2 s3 r
     → Alters (schema_at (moving 1 0)) (schema_at (moving 1 0)) (sectors_moved (map (λ row. row.sector) rows) p) s0 s3 r
-moved_then {T} {U} {V} rows p s0 s1 s2 s3 t u r a b c =
+moved_then {V = V} rows p s0 s1 s2 s3 t u r a b c =
     let at = schema_at (moving 1 0) in
-    let gone = less kept_sector1 (is_up_to 0 (Int (pos p.mark))) in
-    let one = subst (λ onto. Alters {V = T} at at onto s0 s1 (Ok t)) (as_sectors rows) (rows_alter kept_sector2_rows.IsIn at (on_top kept_sector2_rows rows) s0 s1 (Ok t) new_there a) in
-    let two = rows_alter (IsFree kept_sector1) at gone s1 s2 (Ok u) old_free b in
-    let both = alters_then at at at (on_top kept_sector2 (map (λ (row : Sector2Row). row.sector) rows)) gone (turns_same at at gone refl (less_keeps kept_sector1 (is_up_to 0 (Int (pos p.mark))))) s0 s1 s2 t (Ok u) one two in
-    point_then at at (λ name more. gone name (on_top kept_sector2 (map (λ (row : Sector2Row). row.sector) rows) name more)) p moving_point s0 s2 s3 u r both c
+    subst (λ (onto : TableName → List Row → List Row). Alters {V = V} at at (λ name had. point_set p name (less kept_sector1 (is_up_to 0 (Int (pos p.mark))) name (onto name had))) s0 s3 r) (as_sectors rows)
+    (batch_then kept_sector1 kept_sector2_rows at new_there old_free moving_point rows p s0 s1 s2 s3 t u r a b c)
 
 -- ── tables ──
 

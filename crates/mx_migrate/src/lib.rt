@@ -45,6 +45,10 @@
 //! - So does the one that makes the last indexes and settles the file at layout 2: `Finish`: `Migrate`.
 //! - On the way to layout 3 so does the one that makes the new table of deferrals, in a file that is settled at layout 2:
 //!   `CreateDeferrals`: `Migrate`.
+//! - So does the one that moves the first 64 deferrals of the old table to the new one, each with the cycles that it
+//!   holds; the old table loses these and no others. It is due where it holds the next deferrals of the book; other
+//!   deferrals than it holds, one that is not above the mark, and one that has a number which no entry can have make the
+//!   old table damaged: `MoveDeferrals`: `Migrate` (`gone` of `MovesDeferrals`, `IsDeferralOff`).
 //! - So does the one that drops the old table of deferrals, only where it has no row, and makes that of accomplishments:
 //!   `ChangeToAccomplishments`: `Migrate`.
 //! - So does the one that drops the table of last bases, only where it has no row, makes the last indexes and settles the
@@ -52,6 +56,7 @@
 #![tactic(auto)]
 
 pub mod components;
+pub mod deferrals;
 pub mod kept;
 pub mod later_tables;
 mod looking;
@@ -61,6 +66,7 @@ pub mod step;
 pub mod tables;
 
 pub use components::MoveComponent;
+pub use deferrals::MoveDeferrals;
 pub use kept::{WriteBases, WriteTotal};
 pub use later_tables::{ChangeToAccomplishments, CreateDeferrals, FinishLater};
 pub use mx_registers::points::point_after as next_point;

@@ -3,6 +3,7 @@ pub mod AlterLemmas
 pub mod TableTexts
 pub mod PointTexts
 pub mod SectorTexts
+pub mod DeferralTexts
 pub mod ComponentTexts
 pub mod ItemTexts
 pub mod InstallProofs

@@ -1,6 +1,7 @@
 pub mod StandsLemmas
 pub mod PageLemmas
 pub mod FrontLemmas
+pub mod BatchLemmas
 pub mod SectorLemmas
 pub mod ThingLemmas
 pub mod StayLemmas
@@ -11,3 +12,4 @@ pub mod ComponentLemmas
 pub mod EndedLemmas
 pub mod WrittenLemmas
 pub mod LaterLemmas
+pub mod DeferralLemmas

@@ -20,3 +20,11 @@ removal1_by_component = codes "SELECT seq, component, moment FROM removal1 WHERE
 -- deletes the removals of a component from `removal1`
 abbrev pub removal1_gone : List ℕ
 removal1_gone = codes "DELETE FROM removal1 WHERE component = ?1"
+
+-- the first 64 deferrals of `defect`
+abbrev pub first_deferrals : List ℕ
+first_deferrals = codes "SELECT seq, aircraft, moment, reference, category, days FROM defect ORDER BY seq LIMIT 64"
+
+-- deletes the deferrals of `defect` up to an entry
+abbrev pub defect_gone : List ℕ
+defect_gone = codes "DELETE FROM defect WHERE seq <= ?1"

@@ -1,8 +1,10 @@
 pub mod Next
 pub mod Rows
+pub mod Batches
 pub mod Sectors
 pub mod Tables
 pub mod Pairing
 pub mod Components
 pub mod Written
 pub mod LaterTables
+pub mod Deferrals

@@ -24,6 +24,9 @@
 //!   `writes`.
 //! - The fittings and removals of a component are read and deleted, spans added, and nothing else: `fittings_of`,
 //!   `removals_of`: `reads`; `insert_spans`, `delete_fittings`, `delete_removals`: `writes`.
+//! - The first 64 deferrals of `defect` are read from its front; deferrals are added to `defect3`, and those up to an
+//!   entry deleted from `defect`, and nothing else: `first_deferrals`: `reads`; `insert_deferrals`, `delete_deferrals`:
+//!   `writes`.
 //! - A total is added to `total2`, last bases to `base2`, and nothing else: `insert_total`, `insert_bases`: `writes`.
 //! - A table is made with no row, or dropped, or an index made, and each other table keeps its rows, whatever they are:
 //!   `create_sector2`, `drop_sector1`, `create_span2`, `index_span2`, `drop_fittings`, `create_total2`, `create_base2`,
@@ -32,6 +35,7 @@
 #![tactic(auto)]
 
 pub mod install;
+pub mod later_rows;
 pub mod later_tables;
 pub mod point;
 mod prelude;

@@ -21,5 +21,6 @@
 //!   no row is of another type, fittings and removals of a component take turns, and none is left over, nor is a deferral
 //!   or a last base, so that none of these makes a table damaged: `whole` of the same laws.
 
+pub mod deferral_laws;
 pub mod later_laws;
 pub mod laws;

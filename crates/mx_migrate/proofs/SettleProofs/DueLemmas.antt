@@ -17,7 +17,7 @@ use Rattle.mx_moves.specs.steps.Rows.{MakesRows}
 use Rattle.mx_moves.specs.steps.Sectors.{sectors_moved}
 use Rattle.mx_moves.specs.steps.Tables.{table_made}
 use Rattle.mx_moves.specs.steps.Written.{bases_written, total_written}
-use Rattle.mx_moves.proofs.StepsProofs.SectorLemmas.{one_point}
+use Rattle.mx_moves.proofs.StepsProofs.BatchLemmas.{one_point}
 use Rattle.mx_migrate.specs.declared.settle.due.Due.{Due}
 use Rattle.mx_migrate.specs.declared.settle.due.Due.TheVariants as due
 use Rattle.mx_migrate.specs.settle.Due.{MakesBy}

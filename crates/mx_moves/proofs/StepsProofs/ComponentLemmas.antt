@@ -40,7 +40,7 @@ use Rattle.mx_moves.specs.steps.Pairing.{spans_made}
 use Rattle.mx_moves.specs.steps.Rows.{MakesRows}
 use Rattle.mx_moves.proofs.StepsProofs.PageLemmas.{chosen_are, rises_left}
 use Rattle.mx_moves.proofs.StepsProofs.PairLemmas.{made_of_book, spans_fit}
-use Rattle.mx_moves.proofs.StepsProofs.SectorLemmas.{one_point, point_keeps}
+use Rattle.mx_moves.proofs.StepsProofs.BatchLemmas.{one_point, point_keeps}
 use Rattle.mx_moves.proofs.StepsProofs.StandsLemmas.{stands_next}
 use Rattle.mx_moves.proofs.StepsProofs.ThingLemmas.{next_is, point_fits}
 

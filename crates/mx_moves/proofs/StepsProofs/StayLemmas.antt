@@ -30,7 +30,7 @@ use Rattle.mx_moves.proofs.RowLemmas.{Keeps, Forgets, emptied_forgets, emptied_k
 use Rattle.mx_moves.specs.steps.Rows.{MakesRows}
 use Rattle.mx_moves.specs.steps.Tables.{table_made}
 use Rattle.mx_moves.proofs.StepsProofs.PageLemmas.{permutation_none}
-use Rattle.mx_moves.proofs.StepsProofs.SectorLemmas.{one_point, point_keeps}
+use Rattle.mx_moves.proofs.StepsProofs.BatchLemmas.{one_point, point_keeps}
 use Rattle.mx_moves.proofs.StepsProofs.StandsLemmas.{stands_next}
 
 -- ── the rows of one table ──

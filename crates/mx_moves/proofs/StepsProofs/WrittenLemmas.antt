@@ -12,6 +12,7 @@ use Rattle.mx_book.specs.Programme.{last_of}
 use Rattle.mx_base.specs.declared.rows.rows.BaseRow.{BaseRow}
 use Rattle.mx_base.specs.declared.rows.rows.TotalRow.{TotalRow}
 use Rattle.mx_base.specs.rows.Rows.{FitsAircraft, FitsBase, FitsComponent, FitsDeferral, FitsOpening, FitsRelease, FitsReleaseLine, FitsSector, FitsSpan, FitsTotal}
+use Rattle.mx_registers.specs.Registers.{deferral_rows, sector_rows}
 use Rattle.mx_registers.specs.kept.Bases.{base_rows}
 use Rattle.mx_registers.specs.kept.Fits.{FitRegisters}
 use Rattle.mx_registers.specs.kept.Items.{items}
@@ -24,7 +25,7 @@ use Rattle.mx_base.specs.declared.point.Point.{Point}
 use Rattle.mx_registers.specs.points.Moves.{last_moved, totals_next}
 use Rattle.mx_registers.specs.declared.points.points.TheConstants.{NEWEST_LAYOUT}
 use Rattle.mx_registers.specs.points.Points.{moving, next_mark, next_point}
-use Rattle.mx_registers.specs.points.Tables.{bases_2, rows_at, stands_there, totals_2}
+use Rattle.mx_registers.specs.points.Tables.{bases_2, rows_at, sectors_2, spans_2, stands_there, totals_2}
 use Rattle.mx_registers.proofs.PointsProofs.MoveLemmas.{bases_written as written_law, totals_moved}
 use Rattle.mx_registers.proofs.PointsProofs.NextLemmas.{bases_next}
 use Rattle.mx_registers.proofs.PointsProofs.OneBook.{filter_through}
@@ -40,29 +41,35 @@ use Rattle.mx_book_tables.proofs.ReadingProofs.RegisterLemmas.{AreMoved, moved_a
 use Rattle.mx_moves.proofs.RowLemmas.{Keeps}
 use Rattle.mx_moves.specs.steps.Rows.{MakesRows}
 use Rattle.mx_moves.specs.steps.Written.{WritesBases, WritesTotal, bases_of, bases_written, total_written}
-use Rattle.mx_moves.proofs.StepsProofs.SectorLemmas.{one_point, point_keeps}
+use Rattle.mx_moves.proofs.StepsProofs.BatchLemmas.{one_point, point_keeps}
 use Rattle.mx_moves.proofs.StepsProofs.StandsLemmas.{stands_next}
 use Rattle.mx_moves.proofs.StepsProofs.ThingLemmas.{next_is, point_fits}
 
 -- ── what is kept fits, since the registers do ──
 
--- where all deferrals, sectors and spans stand in the tables that are read
-registers_fit : (at : Point) (trees : Trees) (book : List Entry) → StandsAt at trees book → AreMoved at book → FitRegisters book
-registers_fit at trees book stands moved =
+-- where all sectors and spans stand in the tables that are read, and the deferrals fit
+pub registers_fit_with : (at : Point) (trees : Trees) (book : List Entry) → StandsAt at trees book → is_at at table.Sector2 ≡ true → is_at at table.Span2 ≡ true
+    → rows_at sectors_2 at book ≡ sector_rows book → rows_at spans_2 at book ≡ span_rows book → All FitsDeferral (deferral_rows book) → FitRegisters book
+registers_fit_with at trees book stands flown fitted sectors_are spans_are deferred =
     let all = always_whole at book in
     let fit = stands.rows.fit in
-    let spans : All FitsSpan (span_rows book) = subst (All FitsSpan) moved.spans (fit table.Span2 moved.fitted) in
+    let spans : All FitsSpan (span_rows book) = subst (All FitsSpan) spans_are (fit table.Span2 fitted) in
     record {
       aircraft = subst (All FitsAircraft) all.aircraft (fit table.Aircraft refl);
       components = subst (All FitsComponent) all.components (fit table.Component refl);
       openings = subst (All FitsOpening) all.openings (fit table.Opening refl);
-      sectors = subst (All FitsSector) moved.sectors (fit table.Sector2 moved.flown);
+      sectors = subst (All FitsSector) sectors_are (fit table.Sector2 flown);
       fittings = fittings_fit book spans;
       removals = removals_fit book stands.rows.is_book spans;
       releases = subst (All FitsRelease) all.releases (fit table.Crs refl);
       release_lines = subst (All FitsReleaseLine) all.release_lines (fit table.CrsLine refl);
-      deferrals = subst (All FitsDeferral) moved.deferrals (fit table.Defect moved.deferred);
+      deferrals = deferred;
     }
+
+-- where all deferrals, sectors and spans stand in the tables that are read
+registers_fit : (at : Point) (trees : Trees) (book : List Entry) → StandsAt at trees book → AreMoved at book → FitRegisters book
+registers_fit at trees book stands moved =
+    registers_fit_with at trees book stands moved.flown moved.fitted moved.sectors moved.spans (subst (All FitsDeferral) moved.deferrals (stands.rows.fit table.Defect moved.deferred))
 
 fit_at_totals : (mark : ℕ) (trees : Trees) (book : List Entry) → StandsAt (moving 3 mark) trees book → FitRegisters book
 fit_at_totals mark trees book stands = registers_fit (moving 3 mark) trees book stands (moved_at_totals mark book)
