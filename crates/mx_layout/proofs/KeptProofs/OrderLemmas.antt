@@ -25,7 +25,7 @@ not_less : (a b : ℕ) → is_lt (value_cmp (Int (pos b)) (Int (pos a))) ≡ fal
 not_less a b h = let e = value_cmp-Int (pos b) (pos a) in grind (arith, ints, nat_tests)
 
 -- of two keys, by the order of their first parts
-by_parts : (a b c d : ℕ) → b < 2 ^ 32 → (o : Ordering) → value_cmp (Int (pos c)) (Int (pos a)) ≡ o → is_lt (ordering_then o (value_cmp (Int (pos d)) (Int (pos b)))) ≡ false → line_key a b ≤ line_key c d
+pub by_parts : (a b c d : ℕ) → b < 2 ^ 32 → (o : Ordering) → value_cmp (Int (pos c)) (Int (pos a)) ≡ o → is_lt (ordering_then o (value_cmp (Int (pos d)) (Int (pos b)))) ≡ false → line_key a b ≤ line_key c d
 by_parts a b c d low Less e h = absurd cc
 by_parts a b c d low Equal e h = let same = equals c a e in let up = not_less b d h in omega arith
 by_parts a b c d low Greater e h = let above = greater c a e in omega arith

@@ -1,19 +1,17 @@
 -- Accomplishments of a task of an item that are read in the order of the table stand in that of their entries and of the lines there.
-use Rattle.std.proofs.Common.{◌≡◌, ◌∙◌, ℕ, ◌^◌, ◌<◌, ◌≤◌, pos, true, false, ◌&&◌, List, [], ◌∷◌, map, filter, refl, sym, ap, ap₂, subst, arith}
+use Rattle.std.proofs.Common.{◌≡◌, ◌∙◌, ℕ, ◌≤◌, pos, true, false, ◌&&◌, List, [], ◌∷◌, map, filter, refl, sym, ap, ap₂, subst}
 use Rattle.std.specs.Prelude.{All, IsPermutation, IsSorted, nat_eq}
 use Rattle.std.specs.Cmp.{tied_itself}
 use Rattle.std.specs.List.{AllByRecursion}
 use Rattle.std.specs.Ordering.{is_lt, ordering_then}
 use Rattle.std.specs.declared.cmp.Ordering.{Ordering}
-use Rattle.std.specs.declared.cmp.Ordering.TheVariants.{Less, Equal, Greater}
-use Rattle.std.proofs.lemmas.Bool.Decides.{Decides-eqb, nat_tests}
-use Rattle.std.proofs.lemmas.Int.{ints}
+use Rattle.std.proofs.lemmas.Bool.Decides.{Decides-eqb}
 use Rattle.std.proofs.lemmas.List.Elements.{All-from_recursion, filter_passes, recursion_from_All}
 use Rattle.std.proofs.lemmas.List.Sorted.{All-permutation, IsPermutation-map, IsPermutation-trans}
 use Rattle.sqlite.specs.Order.{Row, value_cmp}
 use Rattle.sqlite.specs.declared.types.Value.{Value}
 use Rattle.sqlite.specs.declared.types.Value.TheVariants.{Int, Text}
-use Rattle.sqlite_value.proofs.OrderLemmas.{value_cmp-Int, value_cmp_total}
+use Rattle.sqlite_value.proofs.OrderLemmas.{value_cmp_total}
 use Rattle.mx_base.specs.declared.rows.rows.DoneRow.{DoneRow}
 use Rattle.mx_base.specs.rows.Rising.{IsFrom, IsRising}
 use Rattle.mx_base.specs.rows.Rows.{FitsDone, line_key}
@@ -24,7 +22,7 @@ use Rattle.mx_book.proofs.JudgeLemmas.{both_true}
 use Rattle.mx_registers.specs.late.Done.{is_done_of}
 use Rattle.mx_layout.specs.Reading.{by_four}
 use Rattle.mx_layout.specs.kept.Cells.{kept_done3}
-use Rattle.mx_layout.proofs.KeptProofs.OrderLemmas.{ascends}
+use Rattle.mx_layout.proofs.KeptProofs.OrderLemmas.{ascends, by_parts}
 use Rattle.mx_layout.proofs.KeptProofs.ValueLemmas.{limit_at, limit_back, number_at, text_at}
 use Rattle.mx_table_rows.specs.totals.Several.{AreExactly}
 use Rattle.mx_lookups.specs.numbers.Given.{is_of}
@@ -56,21 +54,6 @@ same_rows xs ys same =
     subst (λ l. IsPermutation l ys) (all_back xs) (subst (IsPermutation (map back (map kept_done3.as_cells xs))) (all_back ys) (IsPermutation-map back (map kept_done3.as_cells xs) (map kept_done3.as_cells ys) same))
 
 -- ── in the order of the entries and of their lines ──
-
-equals : (a b : ℕ) → value_cmp (Int (pos a)) (Int (pos b)) ≡ Equal → a ≡ b
-equals a b h = let e = value_cmp-Int (pos a) (pos b) in grind (arith, ints, nat_tests)
-
-greater : (a b : ℕ) → value_cmp (Int (pos a)) (Int (pos b)) ≡ Greater → b < a
-greater a b h = let e = value_cmp-Int (pos a) (pos b) in grind (arith, ints, nat_tests)
-
-not_less : (a b : ℕ) → is_lt (value_cmp (Int (pos b)) (Int (pos a))) ≡ false → a ≤ b
-not_less a b h = let e = value_cmp-Int (pos b) (pos a) in grind (arith, ints, nat_tests)
-
--- of two keys, by the order of their first parts
-by_parts : (a b c d : ℕ) → b < 2 ^ 32 → (o : Ordering) → value_cmp (Int (pos c)) (Int (pos a)) ≡ o → is_lt (ordering_then o (value_cmp (Int (pos d)) (Int (pos b)))) ≡ false → line_key a b ≤ line_key c d
-by_parts a b c d low Less e h = absurd cc
-by_parts a b c d low Equal e h = let same = equals c a e in let up = not_less b d h in omega arith
-by_parts a b c d low Greater e h = let above = greater c a e in omega arith
 
 -- what is the same decides nothing
 past_same : (a : Value) (o : Ordering) → is_lt (ordering_then (value_cmp a a) o) ≡ false → is_lt o ≡ false
