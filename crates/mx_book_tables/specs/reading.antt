@@ -1,4 +1,5 @@
 pub mod Damage
+pub mod Deferrals
 pub mod Layout
 pub mod Looks
 pub mod Stored

@@ -50,3 +50,9 @@ module _ {V W : Type 0} (IsIn Has : Schema → Type 0) (AreRead : Trees → V �
         inside = r.inside;
         within = r.within;
       })
+
+-- what was read says more
+pub read_too : {V : Type 0} (IsIn Has : Schema → Type 0) (AreRead Are : Trees → V → Type 0) → ((schema : Schema) → Has schema → IsIn schema) → ((trees : Trees) (v : V) → AreRead trees v → Are trees v)
+    → (old new : State) (result : Result V TableFault) → ReadsTables IsIn AreRead old new result → ReadsTables Has Are old new result
+read_too IsIn Has AreRead Are has so old new (Ok v) r = read_told IsIn Has AreRead Are has old new v v (λ trees are. so trees v are) r
+read_too IsIn Has AreRead Are has so old new (Err e) r = read_stopped IsIn Has AreRead Are has old new e (Err e) refl r

@@ -12,6 +12,7 @@ use Rattle.sqlite.specs.Tree.{Trees}
 use Rattle.mx_book.specs.commands.Act.{Entry}
 use Rattle.mx_book.specs.Book.{IsBook}
 use Rattle.mx_base.specs.declared.rows.rows.BaseRow.{BaseRow}
+use Rattle.mx_base.specs.declared.rows.rows.DeferralRow.{DeferralRow}
 use Rattle.mx_base.specs.declared.rows.rows.Sector2Row.{Sector2Row}
 use Rattle.mx_base.specs.declared.rows.rows.SpanRow.{SpanRow}
 use Rattle.mx_base.specs.declared.rows.rows.TotalRow.{TotalRow}
@@ -44,8 +45,9 @@ use Rattle.mx_registers.specs.file.Tables.{AreTablesOf}
 use Rattle.mx_registers.specs.declared.file.file_rows.FileRows.{FileRows}
 use Rattle.mx_book_tables.specs.reading.Layout.{HasTables, verified_point}
 use Rattle.mx_book_tables.specs.reading.Damage.{HasBadRow, IsCause}
-use Rattle.mx_book_tables.specs.reading.Stored.{AreInPairs, AreRegisterRows, AreRegisters, AreStored, HasRegisters, RegisterPairs}
+use Rattle.mx_book_tables.specs.reading.Stored.{AreInPairs, AreRegisterRows, AreRegisters, AreRegistersBy, AreStored, HasRegisters, HasRegistersBy, RegisterPairs}
 use Rattle.mx_book_tables.specs.reading.Looks.{IsAtPoint, Looks}
+use Rattle.mx_book_tables.proofs.ReadingProofs.ReadLemmas.{read_too}
 use Rattle.mx_book_tables.proofs.ReadingProofs.RegisterLemmas.{given_as, moved_settled, read_as, registers_read}
 
 -- ── all tables ──
@@ -125,54 +127,112 @@ none_bad trees book has name there bad = bad.2 (All-contains (IsReadable name) (
 held_rows : {X Y : Type 0} (k : Kept X) (inner : Y → X) (trees : Trees) (ys : List Y) → AreAllBy k.order (table_named k.name) trees (map (λ y. k.as_cells (inner y)) ys) × All (λ y. k.Fits (inner y)) ys → AreRowsOf k trees (map inner ys)
 held_rows k inner trees ys are = (subst (AreAllBy k.order (table_named k.name) trees) (sym (map-map k.as_cells inner ys)) are.0, All-map k.Fits inner ys are.1)
 
--- the rows in the pairs are exactly those of the tables
-abbrev pub ArePairs : Trees → RegisterPairs → Type 0
-ArePairs trees pairs = AreRowsOf kept_entry trees pairs.0.items
-    × (AreRowsOf kept_aircraft trees pairs.1.0.items
-    × (AreRowsOf kept_place trees pairs.1.1.0.items
-    × (AreRowsOf kept_component trees pairs.1.1.1.0.items
-    × (AreRowsOf kept_programme trees pairs.1.1.1.1.0.items
-    × (AreRowsOf kept_task trees pairs.1.1.1.1.1.0.items
-    × (AreRowsOf kept_opening trees pairs.1.1.1.1.1.1.0.items
-    × (AreRowsOf kept_crs trees pairs.1.1.1.1.1.1.1.0.items
-    × (AreRowsOf kept_crs_line trees pairs.1.1.1.1.1.1.1.1.0.items
-    × (AreRowsOf kept_defect trees pairs.1.1.1.1.1.1.1.1.1.0.items
-    × (AreRowsOf kept_extension trees pairs.1.1.1.1.1.1.1.1.1.1.0.items
-    × (AreRowsOf kept_sector2_rows trees pairs.1.1.1.1.1.1.1.1.1.1.1.0.items
-    × AreRowsOf kept_span2 trees pairs.1.1.1.1.1.1.1.1.1.1.1.1.items)))))))))))
-
--- the schema has each of the tables
-abbrev pub AreIn : Schema → Type 0
-AreIn schema = kept_entry.IsIn schema × (kept_aircraft.IsIn schema × (kept_place.IsIn schema × (kept_component.IsIn schema × (kept_programme.IsIn schema × (kept_task.IsIn schema × (kept_opening.IsIn schema × (kept_crs.IsIn schema × (kept_crs_line.IsIn schema × (kept_defect.IsIn schema × (kept_extension.IsIn schema × (kept_sector2_rows.IsIn schema × kept_span2.IsIn schema)))))))))))
-
--- a schema with the tables of the registers has them
-pub all_in : (schema : Schema) → HasRegisters schema → AreIn schema
-all_in schema has = (has.entries, (has.aircraft, (has.places, (has.components, (has.programmes, (has.tasks, (has.openings, (has.releases, (has.release_lines, (has.deferrals, (has.extensions, (has.sectors, has.spans))))))))))))
-
 stored_by : {X : Type 0} (k : Kept X) (trees : Trees) (xs ys : List X) → ys ≡ xs → AreRowsOf k trees xs → AreRowsOf k trees ys
 stored_by k trees xs ys is = subst (AreRowsOf k trees) (sym is)
 
--- the rows that stand in such pairs are those of the tables
-pub stored_in : (trees : Trees) (pairs : RegisterPairs) (rows : FileRows) → AreInPairs pairs rows → ArePairs trees pairs → AreRegisters trees rows
-stored_in trees pairs rows is are = record {
+-- the tables of the deferrals, as they were read
+module _ {Deferred : Type 0} (HasDeferrals : Schema → Type 0) (AreRead : Trees → Deferred → Type 0) (deferrals_of : Deferred → List DeferralRow) where
+  -- the deferrals are those of what was read
+  abbrev pub AreDeferrals : Trees → List DeferralRow → Type 0
+  AreDeferrals trees deferrals = (read : Deferred) × AreRead trees read × (deferrals ≡ deferrals_of read)
+
+  -- the rows in the pairs are exactly those of the tables
+  abbrev pub ArePairs : Trees → RegisterPairs Deferred → Type 0
+  ArePairs trees pairs = AreRowsOf kept_entry trees pairs.0.items
+      × (AreRowsOf kept_aircraft trees pairs.1.0.items
+      × (AreRowsOf kept_place trees pairs.1.1.0.items
+      × (AreRowsOf kept_component trees pairs.1.1.1.0.items
+      × (AreRowsOf kept_programme trees pairs.1.1.1.1.0.items
+      × (AreRowsOf kept_task trees pairs.1.1.1.1.1.0.items
+      × (AreRowsOf kept_opening trees pairs.1.1.1.1.1.1.0.items
+      × (AreRowsOf kept_crs trees pairs.1.1.1.1.1.1.1.0.items
+      × (AreRowsOf kept_crs_line trees pairs.1.1.1.1.1.1.1.1.0.items
+      × (AreRead trees pairs.1.1.1.1.1.1.1.1.1.0
+      × (AreRowsOf kept_extension trees pairs.1.1.1.1.1.1.1.1.1.1.0.items
+      × (AreRowsOf kept_sector2_rows trees pairs.1.1.1.1.1.1.1.1.1.1.1.0.items
+      × AreRowsOf kept_span2 trees pairs.1.1.1.1.1.1.1.1.1.1.1.1.items)))))))))))
+
+  -- the schema has each of the tables
+  abbrev pub AreIn : Schema → Type 0
+  AreIn schema = kept_entry.IsIn schema × (kept_aircraft.IsIn schema × (kept_place.IsIn schema × (kept_component.IsIn schema × (kept_programme.IsIn schema × (kept_task.IsIn schema × (kept_opening.IsIn schema × (kept_crs.IsIn schema × (kept_crs_line.IsIn schema × (HasDeferrals schema × (kept_extension.IsIn schema × (kept_sector2_rows.IsIn schema × kept_span2.IsIn schema)))))))))))
+
+  -- a schema with the tables of the registers has them
+  pub all_in : (schema : Schema) → HasRegistersBy HasDeferrals schema → AreIn schema
+  all_in schema has = (has.entries, (has.aircraft, (has.places, (has.components, (has.programmes, (has.tasks, (has.openings, (has.releases, (has.release_lines, (has.deferrals, (has.extensions, (has.sectors, has.spans))))))))))))
+
+  -- the rows that stand in such pairs are those of the tables
+  pub stored_in : (trees : Trees) (pairs : RegisterPairs Deferred) (rows : FileRows) → AreInPairs deferrals_of pairs rows → ArePairs trees pairs → AreRegistersBy AreDeferrals trees rows
+  stored_in trees pairs rows is are = record {
+    registers = record {
+      entries = stored_by kept_entry trees pairs.0.items rows.registers.entries.items is.entries are.0;
+      aircraft = stored_by kept_aircraft trees pairs.1.0.items rows.registers.rows.aircraft.items is.aircraft are.1.0;
+      places = stored_by kept_place trees pairs.1.1.0.items rows.registers.rows.places.items is.places are.1.1.0;
+      components = stored_by kept_component trees pairs.1.1.1.0.items rows.registers.rows.components.items is.components are.1.1.1.0;
+      programmes = stored_by kept_programme trees pairs.1.1.1.1.0.items rows.registers.rows.programmes.items is.programmes are.1.1.1.1.0;
+      tasks = stored_by kept_task trees pairs.1.1.1.1.1.0.items rows.registers.rows.tasks.items is.tasks are.1.1.1.1.1.0;
+      openings = stored_by kept_opening trees pairs.1.1.1.1.1.1.0.items rows.registers.rows.openings.items is.openings are.1.1.1.1.1.1.0;
+      releases = stored_by kept_crs trees pairs.1.1.1.1.1.1.1.0.items rows.registers.rows.releases.items is.releases are.1.1.1.1.1.1.1.0;
+      release_lines = stored_by kept_crs_line trees pairs.1.1.1.1.1.1.1.1.0.items rows.registers.rows.release_lines.items is.release_lines are.1.1.1.1.1.1.1.1.0;
+      deferrals = (pairs.1.1.1.1.1.1.1.1.1.0, are.1.1.1.1.1.1.1.1.1.0, is.deferrals);
+      extensions = stored_by kept_extension trees pairs.1.1.1.1.1.1.1.1.1.1.0.items rows.registers.rows.extensions.items is.extensions are.1.1.1.1.1.1.1.1.1.1.0;
+      sectors = stored_by kept_sector2 trees (map (λ (row : Sector2Row). row.sector) pairs.1.1.1.1.1.1.1.1.1.1.1.0.items) rows.registers.rows.sectors.items is.sectors (held_rows kept_sector2 (λ (row : Sector2Row). row.sector) trees pairs.1.1.1.1.1.1.1.1.1.1.1.0.items are.1.1.1.1.1.1.1.1.1.1.1.0);
+    };
+    spans = stored_by kept_span2 trees pairs.1.1.1.1.1.1.1.1.1.1.1.1.items rows.spans.items is.spans are.1.1.1.1.1.1.1.1.1.1.1.1;
+    totals = is.totals;
+    bases = is.bases;
+  }
+
+-- what is said of the deferrals says more
+pub deferrals_too : (AreRead Are : Trees → List DeferralRow → Type 0) (trees : Trees) (rows : FileRows) → ((deferrals : List DeferralRow) → AreRead trees deferrals → Are trees deferrals) → AreRegistersBy AreRead trees rows → AreRegistersBy Are trees rows
+deferrals_too AreRead Are trees rows so are = record {
   registers = record {
-    entries = stored_by kept_entry trees pairs.0.items rows.registers.entries.items is.entries are.0;
-    aircraft = stored_by kept_aircraft trees pairs.1.0.items rows.registers.rows.aircraft.items is.aircraft are.1.0;
-    places = stored_by kept_place trees pairs.1.1.0.items rows.registers.rows.places.items is.places are.1.1.0;
-    components = stored_by kept_component trees pairs.1.1.1.0.items rows.registers.rows.components.items is.components are.1.1.1.0;
-    programmes = stored_by kept_programme trees pairs.1.1.1.1.0.items rows.registers.rows.programmes.items is.programmes are.1.1.1.1.0;
-    tasks = stored_by kept_task trees pairs.1.1.1.1.1.0.items rows.registers.rows.tasks.items is.tasks are.1.1.1.1.1.0;
-    openings = stored_by kept_opening trees pairs.1.1.1.1.1.1.0.items rows.registers.rows.openings.items is.openings are.1.1.1.1.1.1.0;
-    releases = stored_by kept_crs trees pairs.1.1.1.1.1.1.1.0.items rows.registers.rows.releases.items is.releases are.1.1.1.1.1.1.1.0;
-    release_lines = stored_by kept_crs_line trees pairs.1.1.1.1.1.1.1.1.0.items rows.registers.rows.release_lines.items is.release_lines are.1.1.1.1.1.1.1.1.0;
-    deferrals = stored_by kept_defect trees pairs.1.1.1.1.1.1.1.1.1.0.items rows.registers.rows.deferrals.items is.deferrals are.1.1.1.1.1.1.1.1.1.0;
-    extensions = stored_by kept_extension trees pairs.1.1.1.1.1.1.1.1.1.1.0.items rows.registers.rows.extensions.items is.extensions are.1.1.1.1.1.1.1.1.1.1.0;
-    sectors = stored_by kept_sector2 trees (map (λ (row : Sector2Row). row.sector) pairs.1.1.1.1.1.1.1.1.1.1.1.0.items) rows.registers.rows.sectors.items is.sectors (held_rows kept_sector2 (λ (row : Sector2Row). row.sector) trees pairs.1.1.1.1.1.1.1.1.1.1.1.0.items are.1.1.1.1.1.1.1.1.1.1.1.0);
+    entries = are.registers.entries;
+    aircraft = are.registers.aircraft;
+    places = are.registers.places;
+    components = are.registers.components;
+    programmes = are.registers.programmes;
+    tasks = are.registers.tasks;
+    openings = are.registers.openings;
+    releases = are.registers.releases;
+    release_lines = are.registers.release_lines;
+    deferrals = so rows.registers.rows.deferrals.items are.registers.deferrals;
+    extensions = are.registers.extensions;
+    sectors = are.registers.sectors;
   };
-  spans = stored_by kept_span2 trees pairs.1.1.1.1.1.1.1.1.1.1.1.1.items rows.spans.items is.spans are.1.1.1.1.1.1.1.1.1.1.1.1;
-  totals = is.totals;
-  bases = is.bases;
+  spans = are.spans;
+  totals = are.totals;
+  bases = are.bases;
 }
+
+-- and what a schema has of their tables
+pub tables_too : (Has HasToo : Schema → Type 0) (schema : Schema) → (Has schema → HasToo schema) → HasRegistersBy Has schema → HasRegistersBy HasToo schema
+tables_too Has HasToo schema so has = record {
+  entries = has.entries;
+  aircraft = has.aircraft;
+  places = has.places;
+  components = has.components;
+  programmes = has.programmes;
+  tasks = has.tasks;
+  openings = has.openings;
+  releases = has.releases;
+  release_lines = has.release_lines;
+  deferrals = so has.deferrals;
+  extensions = has.extensions;
+  sectors = has.sectors;
+  spans = has.spans;
+}
+
+-- so of the registers that were read, where the tables are those of a schema that has others
+pub registers_too : (Has HasToo : Schema → Type 0) (AreRead Are : Trees → List DeferralRow → Type 0) → ((schema : Schema) → HasToo schema → Has schema) → ((trees : Trees) (deferrals : List DeferralRow) → AreRead trees deferrals → Are trees deferrals)
+    → (old new : State) (result : Result FileRows TableFault) → ReadsTables (HasRegistersBy Has) (AreRegistersBy AreRead) old new result → ReadsTables (HasRegistersBy HasToo) (AreRegistersBy Are) old new result
+registers_too Has HasToo AreRead Are has so old new result r =
+    read_too (HasRegistersBy Has) (HasRegistersBy HasToo) (AreRegistersBy AreRead) (AreRegistersBy Are) (λ schema. tables_too HasToo Has schema (has schema)) (λ trees rows. deferrals_too AreRead Are trees rows (so trees)) old new result r
+
+-- where all deferrals stand in one table
+pub one_table : (old new : State) (result : Result FileRows TableFault) → ReadsTables (HasRegistersBy kept_defect.IsIn) (AreRegistersBy (AreDeferrals kept_defect.IsIn (λ trees (read : Vec DeferralRow Global). AreRowsOf kept_defect trees read.items) (λ read. read.items))) old new result
+    → ReadsTables HasRegisters AreRegisters old new result
+one_table = registers_too kept_defect.IsIn kept_defect.IsIn (AreDeferrals kept_defect.IsIn (λ trees (read : Vec DeferralRow Global). AreRowsOf kept_defect trees read.items) (λ read. read.items)) (AreRowsOf kept_defect) (λ schema has. has)
+    (λ trees deferrals are. stored_by kept_defect trees are.0.items deferrals are.2 are.1)
 
 -- ── the kept rows ──
 

@@ -2,13 +2,15 @@
 ghost use Rattle.std.specs.Prelude.{◌≡◌, IfOk, map};
 ghost use Rattle.sqlite.specs.Held.{state};
 ghost use Rattle.mx_tables.specs.inserts.Sets.{ReadsTables};
-ghost use Rattle.mx_book_tables.specs.reading.Stored.{AreInPairs, AreRegisters, AreStored, HasRegisters};
+ghost use Rattle.mx_book_tables.specs.reading.Stored.{AreInPairs, AreRegisters, AreRegistersAt, AreRegistersBy, AreStored, HasRegisters, HasRegistersAt, HasRegistersBy};
 ghost use Rattle.mx_book_tables.specs.reading.Looks.{Looks};
 
+use crate::reading::deferrals::{DeferralTables, has_moved_deferrals, is_moving_deferrals};
+use mx_base::Point;
 use mx_base::rows::{
-    AircraftRow, BaseRow, ComponentRow, DeferralRow, EntryRow, ExtensionRow, OpeningRow, PlaceRow,
-    ProgrammeRow, RegisterRows, ReleaseLineRow, ReleaseRow, Sector2Row, SectorRow, SpanRow,
-    TaskRow, TotalRow,
+    AircraftRow, BaseRow, ComponentRow, Deferral3Row, DeferralRow, EntryRow, ExtensionRow,
+    OpeningRow, PlaceRow, ProgrammeRow, RegisterRows, ReleaseLineRow, ReleaseRow, Sector2Row,
+    SectorRow, SpanRow, TaskRow, TotalRow,
 };
 use mx_layout::TableFault;
 use mx_registers::file::FileRows;
@@ -20,26 +22,26 @@ use std::alloc::{AllocError, Global};
 /// The last of the pairs of the registers: what was flown, and where components are fitted.
 type FlownPairs = (Vec<Sector2Row>, Vec<SpanRow>);
 
-/// Those from the deferrals on.
-type DeferredPairs = (Vec<DeferralRow>, (Vec<ExtensionRow>, FlownPairs));
+/// Those from the deferrals on, which stand in one table or in two.
+type DeferredPairs<D> = (D, (Vec<ExtensionRow>, FlownPairs));
 
 /// Those from the releases on.
-type ReleasedPairs = (Vec<ReleaseRow>, (Vec<ReleaseLineRow>, DeferredPairs));
+type ReleasedPairs<D> = (Vec<ReleaseRow>, (Vec<ReleaseLineRow>, DeferredPairs<D>));
 
 /// Those from the programmes on.
-type MaintainedPairs = (
+type MaintainedPairs<D> = (
     Vec<ProgrammeRow>,
-    (Vec<TaskRow>, (Vec<OpeningRow>, ReleasedPairs)),
+    (Vec<TaskRow>, (Vec<OpeningRow>, ReleasedPairs<D>)),
 );
 
 /// Those from the aircraft on.
-type ItemPairs = (
+type ItemPairs<D> = (
     Vec<AircraftRow>,
-    (Vec<PlaceRow>, (Vec<ComponentRow>, MaintainedPairs)),
+    (Vec<PlaceRow>, (Vec<ComponentRow>, MaintainedPairs<D>)),
 );
 
 /// The registers as a set of tables is read: the rows of one, and behind them those of the others.
-type RegisterPairs = (Vec<EntryRow>, ItemPairs);
+type RegisterPairs<D> = (Vec<EntryRow>, ItemPairs<D>);
 
 /// What is kept of items beside them: their totals and last bases.
 type KeptPairs = (Vec<TotalRow>, Vec<BaseRow>);
@@ -52,14 +54,18 @@ fn sectors_in(alloc: Global, rows: &[Sector2Row]) -> Result<Vec<SectorRow>, Allo
 }
 
 // The rows that stand in pairs.
-fn rows_in_pairs(alloc: Global, pairs: RegisterPairs) -> Result<FileRows, AllocError>
-    ensures { IfOk result (AreInPairs pairs) }
+fn rows_in_pairs<D: DeferralTables + Drop>(
+    alloc: Global,
+    pairs: RegisterPairs<D>,
+) -> Result<FileRows, AllocError>
+    ensures { IfOk result (AreInPairs D.deferrals_of pairs) }
 {
     let (entries, (aircraft, (places, (components, maintained)))) = pairs;
     let (programmes, (tasks, (openings, released))) = maintained;
     let (releases, (release_lines, deferred)) = released;
-    let (deferrals, (extensions, flown)) = deferred;
+    let (by_tables, (extensions, flown)) = deferred;
     let (held, spans) = flown;
+    let deferrals = by_tables.into_deferrals(alloc)?;
     let sectors = sectors_in(alloc, held.as_slice())?;
     let flown = (sectors, (Vec::new(alloc), Vec::new(alloc)));
     let deferred = (deferrals, (extensions, flown));
@@ -90,6 +96,22 @@ fn with_kept(rows: FileRows, kept: KeptPairs) -> FileRows
     }
 }
 
+// The rows of the registers of a file, its deferrals read from these tables.
+fn registers_by<S: Alter, D: DeferralTables + Drop>(
+    alloc: Global,
+    tx: &mut Transaction<'_, S>,
+) -> Result<FileRows, TableFault>
+    ensures same_reference { tx.new.conn.ghost_name ≡ tx.old.conn.ghost_name }
+    ensures reads { ReadsTables (HasRegistersBy D.IsIn)
+        (AreRegistersBy (λ trees deferrals. (read : D) × D.AreRows trees read
+        × (deferrals ≡ D.deferrals_of read)))
+        (state S.Store tx.old.conn.now) (state S.Store tx.new.conn.now) result }
+{
+    let pairs: RegisterPairs<D> = Tables::read(alloc, tx)?;
+    let rows = rows_in_pairs(alloc, pairs)?;
+    Ok(rows)
+}
+
 /// The rows of the registers of a file, read inside a transaction: its sectors from `sector2`, and the spans in place of its
 /// fittings and removals; no kept row of an item is among them. So it serves over any schema that has these tables, also where
 /// a move has yet to make the totals and the last bases.
@@ -104,9 +126,30 @@ pub fn register_rows<S: Alter>(
     ensures reads { ReadsTables HasRegisters AreRegisters
         (state S.Store tx.old.conn.now) (state S.Store tx.new.conn.now) result }
 {
-    let pairs: RegisterPairs = Tables::read(alloc, tx)?;
-    let rows = rows_in_pairs(alloc, pairs)?;
-    Ok(rows)
+    registers_by::<S, Vec<DeferralRow>>(alloc, tx)
+}
+
+/// The same of a file at this point of a move, the spans of which have been made: its deferrals from the tables that it has
+/// of them then. So it serves while the move to layout 3 has some of them still in `defect`, and behind it.
+///
+/// # Errors
+/// `Damaged` with its table where a row is none of its type; else `Memory` or `Store`.
+pub fn register_rows_at<S: Alter>(
+    alloc: Global,
+    tx: &mut Transaction<'_, S>,
+    at: Point,
+) -> Result<FileRows, TableFault>
+    ensures same_reference { tx.new.conn.ghost_name ≡ tx.old.conn.ghost_name }
+    ensures reads { ReadsTables (HasRegistersAt at) (AreRegistersAt at)
+        (state S.Store tx.old.conn.now) (state S.Store tx.new.conn.now) result }
+{
+    if has_moved_deferrals(at) {
+        registers_by::<S, Vec<Deferral3Row>>(alloc, tx)
+    } else if is_moving_deferrals(at) {
+        registers_by::<S, (Vec<Deferral3Row>, Vec<DeferralRow>)>(alloc, tx)
+    } else {
+        registers_by::<S, Vec<DeferralRow>>(alloc, tx)
+    }
 }
 
 /// The rows of every table but `office`, read inside a transaction. `Damaged` with the table where a row is none of its type.
