@@ -4,6 +4,7 @@ pub mod TableTexts
 pub mod PointTexts
 pub mod SectorTexts
 pub mod DeferralTexts
+pub mod BaseTexts
 pub mod ComponentTexts
 pub mod ItemTexts
 pub mod InstallProofs

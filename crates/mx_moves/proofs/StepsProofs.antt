@@ -13,3 +13,4 @@ pub mod EndedLemmas
 pub mod WrittenLemmas
 pub mod LaterLemmas
 pub mod DeferralLemmas
+pub mod AccomplishmentLemmas

@@ -28,3 +28,7 @@ first_deferrals = codes "SELECT seq, aircraft, moment, reference, category, days
 -- deletes the deferrals of `defect` up to an entry
 abbrev pub defect_gone : List ℕ
 defect_gone = codes "DELETE FROM defect WHERE seq <= ?1"
+
+-- deletes the last bases of an item from `base2`
+abbrev pub base2_gone : List ℕ
+base2_gone = codes "DELETE FROM base2 WHERE item = ?1"

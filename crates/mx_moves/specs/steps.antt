@@ -8,3 +8,4 @@ pub mod Components
 pub mod Written
 pub mod LaterTables
 pub mod Deferrals
+pub mod Accomplishments

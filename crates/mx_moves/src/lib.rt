@@ -28,6 +28,8 @@
 //!   entry deleted from `defect`, and nothing else: `first_deferrals`: `reads`; `insert_deferrals`, `delete_deferrals`:
 //!   `writes`.
 //! - A total is added to `total2`, last bases to `base2`, and nothing else: `insert_total`, `insert_bases`: `writes`.
+//! - Accomplishments are added to `done3`, the last bases of an item deleted from `base2`, and nothing else:
+//!   `insert_accomplishments`, `delete_bases_of`: `writes`.
 //! - A table is made with no row, or dropped, or an index made, and each other table keeps its rows, whatever they are:
 //!   `create_sector2`, `drop_sector1`, `create_span2`, `index_span2`, `drop_fittings`, `create_total2`, `create_base2`,
 //!   `index_registers`; of layout 3 `create_defect3`, `drop_defect`, `create_done3`, `drop_base2`, `index_layout3`:

@@ -17,10 +17,14 @@
 //!   old one of deferrals, and, where the move has ended, without that of last bases:
 //!   `a_new_table_of_deferrals_keeps_the_book`; `a_change_to_accomplishments_keeps_the_book`,
 //!   `the_end_of_the_second_move_keeps_the_book`: `stand`.
+//! - So do they with the next deferrals moved, or with the accomplishments of the next item written, in any order, in place
+//!   of its last bases; and all days of these are in the calendar: `moved_deferrals_keep_the_book`,
+//!   `written_accomplishments_keep_the_book`: `stand`; `dated`.
 //! - In tables that stand for a book no sector is below the mark, has a number that no entry can have or is left over,
 //!   no row is of another type, fittings and removals of a component take turns, and none is left over, nor is a deferral
 //!   or a last base, so that none of these makes a table damaged: `whole` of the same laws.
 
+pub mod accomplishment_laws;
 pub mod deferral_laws;
 pub mod later_laws;
 pub mod laws;

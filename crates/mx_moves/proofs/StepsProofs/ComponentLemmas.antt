@@ -2,10 +2,9 @@
 use Rattle.std.proofs.Common.{◌≡◌, ◌⊎◌, inl, inr, ℕ, ◌+◌, ◌<◌, true, not, length, List, ◌++◌, map, filter, All, nat_eq, nat_le, Some, Ok, Result, refl, sym, ap, ap₂, subst, ◌∙◌, arith}
 use Rattle.std.specs.List.Sorted.{IsPermutation}
 use Rattle.std.proofs.lemmas.Bool.Decides.{nat_tests}
-use Rattle.std.proofs.lemmas.List.{map-append}
 use Rattle.std.proofs.lemmas.List.Elements.{All-append, All-contains, All-filter}
-use Rattle.std.proofs.lemmas.List.Sorted.{All-permutation, IsPermutation-append_comm, IsPermutation-map, IsPermutation-refl, IsPermutation-sym, IsPermutation-trans}
-use Rattle.sqlite_keyed.proofs.ListLemmas.{filter-filter, filter-map, filter_same, IsPermutation-same}
+use Rattle.std.proofs.lemmas.List.Sorted.{All-permutation, IsPermutation-refl, IsPermutation-sym}
+use Rattle.sqlite_keyed.proofs.ListLemmas.{filter-filter, filter_same}
 use Rattle.sqlite.specs.Tree.{Trees}
 use Rattle.mx_book.specs.commands.Act.{Entry}
 use Rattle.mx_book.specs.Book.{IsBook}
@@ -42,19 +41,13 @@ use Rattle.mx_moves.proofs.StepsProofs.PageLemmas.{chosen_are, rises_left}
 use Rattle.mx_moves.proofs.StepsProofs.PairLemmas.{made_of_book, spans_fit}
 use Rattle.mx_moves.proofs.StepsProofs.BatchLemmas.{one_point, point_keeps}
 use Rattle.mx_moves.proofs.StepsProofs.StandsLemmas.{stands_next}
-use Rattle.mx_moves.proofs.StepsProofs.ThingLemmas.{next_is, point_fits}
+use Rattle.mx_moves.proofs.StepsProofs.ThingLemmas.{more_become, next_is, others_become, point_fits}
 
 above_too : (mark component n : ℕ) → mark < component → nat_eq n component ≡ true → not (nat_le n mark) ≡ true
 above_too mark component n h e = grind (arith, nat_tests)
 
 -- rows of a table that names a component in each
 module _ {X : Type 0} (k : Kept X) (component_of : X → ℕ) (mark component : ℕ) (is_of : (row : X) → is_of_component component (k.as_cells row) ≡ nat_eq (component_of row) component) where
-  -- those that a deletion leaves, where the book leaves these
-  others_become : (had left : List X) → left ≡ filter (λ row. not (nat_eq (component_of row) component)) had → IsPermutation (filter (λ row. not (is_of_component component row)) (map k.as_cells had)) (map k.as_cells left)
-  others_become had left is = IsPermutation-same _ _
-      (filter-map (λ row. not (is_of_component component row)) k.as_cells had
-      ∙ ap (map k.as_cells) (filter_same (λ row. not (is_of_component component (k.as_cells row))) (λ row. not (nat_eq (component_of row) component)) (λ row. ap not (is_of row)) had ∙ sym is))
-
   -- those of the component, where those up to the mark have moved, are all that the book has of it
   those_are : mark < component → (all rows : List X) → rows ≡ filter (λ row. is_of_component component (k.as_cells row)) (filter (λ row. not (nat_le (component_of row) mark)) all) → rows ≡ filter (λ row. nat_eq (component_of row) component) all
   those_are low all rows is =
@@ -68,20 +61,16 @@ module _ (mark component : ℕ) (book : List Entry) (b : IsBook book) (due : nex
   -- ── what the rows become ──
 
   fittings_become : IsPermutation (filter (λ row. not (is_of_component component row)) (map kept_fit1.as_cells (rows_at fittings_1 (moving 2 mark) book))) (map kept_fit1.as_cells (rows_at fittings_1 (moving 2 component) book))
-  fittings_become = others_become kept_fit1 (λ (row : FittingRow). row.component) mark component (λ row. equal_numbers row.component component) _ _ (fittings_left book mark component (fittings_next book mark component b due))
+  fittings_become = others_become kept_fit1 (is_of_component component) (λ (row : FittingRow). nat_eq row.component component) (λ row. equal_numbers row.component component) _ _ (fittings_left book mark component (fittings_next book mark component b due))
 
   removals_become : IsPermutation (filter (λ row. not (is_of_component component row)) (map kept_removal1.as_cells (rows_at removals_1 (moving 2 mark) book))) (map kept_removal1.as_cells (rows_at removals_1 (moving 2 component) book))
-  removals_become = others_become kept_removal1 (λ (row : RemovalRow). row.component) mark component (λ row. equal_numbers row.component component) _ _ (removals_left book mark component (removals_next book mark component b due))
+  removals_become = others_become kept_removal1 (is_of_component component) (λ (row : RemovalRow). nat_eq row.component component) (λ row. equal_numbers row.component component) _ _ (removals_left book mark component (removals_next book mark component b due))
 
   brought : IsPermutation (rows_at spans_2 (moving 2 component) book) (rows_at spans_2 (moving 2 mark) book ++ spans_by book component)
   brought = spans_moved book mark component (spans_next book mark component b due)
 
   spans_become : IsPermutation (map kept_span2.as_cells (spans_by book component) ++ map kept_span2.as_cells (rows_at spans_2 (moving 2 mark) book)) (map kept_span2.as_cells (rows_at spans_2 (moving 2 component) book))
-  spans_become =
-      let had = rows_at spans_2 (moving 2 mark) book in
-      let moved = spans_by book component in
-      IsPermutation-trans _ _ _ (IsPermutation-append_comm (map kept_span2.as_cells moved) (map kept_span2.as_cells had))
-      (IsPermutation-sym _ _ (subst (IsPermutation (map kept_span2.as_cells (rows_at spans_2 (moving 2 component) book))) (map-append kept_span2.as_cells had moved) (IsPermutation-map kept_span2.as_cells _ _ brought)))
+  spans_become = more_become kept_span2 (spans_by book component) (spans_by book component) (rows_at spans_2 (moving 2 mark) book) (rows_at spans_2 (moving 2 component) book) (IsPermutation-refl (spans_by book component)) brought
 
   rows_become : (name : TableName) → is_at (moving 2 component) name ≡ true → IsPermutation (component_moved (spans_by book component) (moving 2 component) name (rows_given (moving 2 mark) book name)) (rows_given (moving 2 component) book name)
   rows_become table.Office there = one_point (moving 2 mark) (moving 2 component)

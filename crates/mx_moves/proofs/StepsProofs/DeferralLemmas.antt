@@ -45,18 +45,18 @@ seq_of row = row.seq
 abbrev pub moving_deferrals : ℕ → Point
 moving_deferrals mark = moving_from 2 1 mark
 
+-- all deferrals fit, since each stands in one of the two tables
+pub deferrals_fit : (at : Point) (book : List Entry) → IsBook book → All FitsDeferral3 (rows_at deferrals_3 at book) → All FitsDeferral (rows_at deferrals_2 at book) → All FitsDeferral (deferral_rows book)
+deferrals_fit at book is_book moved left =
+    All-permutation FitsDeferral _ (deferral_rows book) (IsPermutation-sym _ _ (stand_once at book is_book).deferrals)
+    (All-append FitsDeferral (deferrals_in (rows_at deferrals_3 at book)) (rows_at deferrals_2 at book) (All-map FitsDeferral (λ (row : Deferral3Row). row.deferral) (rows_at deferrals_3 at book) (λ i d low. (moved i d low).deferral)) left)
+
 module _ (mark : ℕ) (trees : Trees) (book : List Entry) (stands : StandsAt (moving_deferrals mark) trees book) where
   left_fit : All FitsDeferral (rows_at deferrals_2 (moving_deferrals mark) book)
   left_fit = stands.rows.fit table.Defect refl
 
-  -- all deferrals fit, since each stands in one of the two tables
   all_fit : All FitsDeferral (deferral_rows book)
-  all_fit =
-      let moved = rows_at deferrals_3 (moving_deferrals mark) book in
-      let left = rows_at deferrals_2 (moving_deferrals mark) book in
-      let had : All FitsDeferral3 moved = stands.rows.fit table.Defect3 refl in
-      All-permutation FitsDeferral _ (deferral_rows book) (IsPermutation-sym _ _ (stand_once (moving_deferrals mark) book stands.rows.is_book).deferrals)
-      (All-append FitsDeferral (deferrals_in moved) left (All-map FitsDeferral (λ (row : Deferral3Row). row.deferral) moved (λ i d low. (had i d low).deferral)) left_fit)
+  all_fit = deferrals_fit (moving_deferrals mark) book stands.rows.is_book (stands.rows.fit table.Defect3 refl) left_fit
 
   -- so do the cycles at which they were found
   found_fits : All FitsDeferral3 (found_rows book)

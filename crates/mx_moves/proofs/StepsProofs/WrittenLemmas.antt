@@ -3,7 +3,7 @@ use Rattle.std.proofs.Common.{◌≡◌, ◌∙◌, inl, ℕ, true, not, List, [
 use Rattle.std.specs.List.Sorted.{IsPermutation}
 use Rattle.std.proofs.lemmas.List.{map-append}
 use Rattle.std.proofs.lemmas.List.Elements.{All-filter}
-use Rattle.std.proofs.lemmas.List.Sorted.{IsPermutation-append_comm, IsPermutation-append_right, IsPermutation-map, IsPermutation-refl, IsPermutation-sym, IsPermutation-trans}
+use Rattle.std.proofs.lemmas.List.Sorted.{IsPermutation-append_comm, IsPermutation-refl}
 use Rattle.std.proofs.lemmas.Simd.{map-map}
 use Rattle.sqlite.specs.Tree.{Trees}
 use Rattle.mx_book.specs.commands.Act.{Entry}
@@ -43,7 +43,7 @@ use Rattle.mx_moves.specs.steps.Rows.{MakesRows}
 use Rattle.mx_moves.specs.steps.Written.{WritesBases, WritesTotal, bases_of, bases_written, total_written}
 use Rattle.mx_moves.proofs.StepsProofs.BatchLemmas.{one_point, point_keeps}
 use Rattle.mx_moves.proofs.StepsProofs.StandsLemmas.{stands_next}
-use Rattle.mx_moves.proofs.StepsProofs.ThingLemmas.{next_is, point_fits}
+use Rattle.mx_moves.proofs.StepsProofs.ThingLemmas.{more_become, next_is, point_fits}
 
 -- ── what is kept fits, since the registers do ──
 
@@ -144,16 +144,8 @@ total_stands mark row at to book old new here due stood it =
 
 module _ (mark item : ℕ) (rows : List BaseRow) (book : List Entry) (due : next_mark (moving 4 mark) book ≡ Some item) (are : IsPermutation rows (bases_of book item)) where
   -- the table has the bases of the item with those from before
-  bases_brought : IsPermutation (rows ++ rows_at bases_2 (moving 4 mark) book) (rows_at bases_2 (moving 4 item) book)
-  bases_brought =
-      let had = rows_at bases_2 (moving 4 mark) book in
-      IsPermutation-trans _ _ _ (IsPermutation-append_comm rows had)
-      (IsPermutation-trans _ _ _ (IsPermutation-append_right had rows (bases_of book item) are) (IsPermutation-sym _ _ (written_law book mark item (bases_next book mark item due))))
-
   rows_become : IsPermutation (map kept_base2.as_cells rows ++ map kept_base2.as_cells (rows_at bases_2 (moving 4 mark) book)) (map kept_base2.as_cells (rows_at bases_2 (moving 4 item) book))
-  rows_become =
-      let had = rows_at bases_2 (moving 4 mark) book in
-      subst (λ l. IsPermutation l (map kept_base2.as_cells (rows_at bases_2 (moving 4 item) book))) (map-append kept_base2.as_cells rows had) (IsPermutation-map kept_base2.as_cells _ _ bases_brought)
+  rows_become = more_become kept_base2 rows (bases_of book item) (rows_at bases_2 (moving 4 mark) book) (rows_at bases_2 (moving 4 item) book) are (written_law book mark item (bases_next book mark item due))
 
   bases_become : (name : TableName) → is_at (moving 4 item) name ≡ true → IsPermutation (bases_written rows (moving 4 item) name (rows_given (moving 4 mark) book name)) (rows_given (moving 4 item) book name)
   bases_become table.Office there = one_point (moving 4 mark) (moving 4 item)
