@@ -38,7 +38,8 @@ use Rattle.mx_book_tables.specs.stands.Schemas.{schema_at}
 use Rattle.mx_book_tables.specs.stands.Stands.{LiesAt}
 use Rattle.mx_moves.specs.Changes.{Alters, AllRise, Reaches, WasOpen}
 use Rattle.mx_moves.specs.steps.Sectors.{is_next_from, sectors_moved, MovesSectors, IsOldOff}
-use Rattle.mx_moves.specs.steps.Deferrals.{AreOthers, deferrals_in, deferrals_moved, is_deferral_next, IsDeferralOff, MovesDeferrals}
+use Rattle.mx_book_tables.specs.reading.Deferrals.{deferrals_in}
+use Rattle.mx_moves.specs.steps.Deferrals.{AreOthers, deferrals_moved, is_deferral_next, IsDeferralOff, MovesDeferrals}
 use Rattle.mx_migrate.specs.Steps.{Runs}
 use Rattle.mx_migrate.proofs.LaterLemmas.{has_deferrals}
 use Rattle.mx_moves.specs.steps.Rows.{MakesRows}

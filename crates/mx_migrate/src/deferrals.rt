@@ -9,7 +9,8 @@ ghost use Rattle.mx_registers.specs.points.Moves.{last_moved};
 ghost use Rattle.mx_registers.specs.points.Points.{moving_from};
 ghost use Rattle.mx_book_tables.specs.stands.Schemas.{schema_at};
 ghost use Rattle.mx_moves.specs.Changes.{Alters};
-ghost use Rattle.mx_moves.specs.steps.Deferrals.{deferrals_in, deferrals_moved, is_deferral_next};
+ghost use Rattle.mx_book_tables.specs.reading.Deferrals.{deferrals_in};
+ghost use Rattle.mx_moves.specs.steps.Deferrals.{deferrals_moved, is_deferral_next};
 
 use crate::step::{Migrate, reached};
 use mx_base::Point;

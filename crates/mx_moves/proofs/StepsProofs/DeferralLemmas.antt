@@ -32,7 +32,8 @@ use Rattle.mx_layout.specs.kept.Cells.{kept_defect, kept_defect3}
 use Rattle.mx_layout.proofs.KeptProofs.Lawful.{defect_lawful}
 use Rattle.mx_book_tables.specs.stands.Family.{rows_of, rows_given, is_at, Fit}
 use Rattle.mx_book_tables.specs.stands.Stands.{StandsAt}
-use Rattle.mx_moves.specs.steps.Deferrals.{deferrals_in, deferrals_moved, IsDeferralOff, MovesDeferrals}
+use Rattle.mx_book_tables.specs.reading.Deferrals.{deferrals_in}
+use Rattle.mx_moves.specs.steps.Deferrals.{deferrals_moved, IsDeferralOff, MovesDeferrals}
 use Rattle.mx_moves.specs.steps.Rows.{MakesRows}
 use Rattle.mx_moves.proofs.StepsProofs.BatchLemmas.{above, batch_keeps, batch_stands, by_first_of, new_table, none_damaged, none_next, none_passed, old_table, one_point, point_fits, up_to_number}
 use Rattle.mx_moves.proofs.StepsProofs.PageLemmas.{first_are, rises_left}

@@ -19,16 +19,13 @@ use Rattle.mx_layout.specs.Tables.{defect}
 use Rattle.mx_layout.specs.kept.Cells.{kept_defect, kept_defect3}
 use Rattle.mx_table_rows.specs.chosen.Choices.{AreFirst, is_any, is_up_to}
 use Rattle.mx_tables.specs.inserts.Sets.{IsDamaged}
+use Rattle.mx_book_tables.specs.reading.Deferrals.{deferrals_in}
 use Rattle.mx_moves.specs.steps.Batches.{batch_moved, is_number_next}
 use Rattle.mx_moves.specs.steps.Rows.{MakesRows}
 
 -- the deferral has still to move: its number is above the mark, and one that an entry can have
 abbrev pub is_deferral_next : ℕ → DeferralRow → Bool
 is_deferral_next mark row = is_number_next mark row.seq
-
--- the deferrals, without the cycles at which they were found
-abbrev pub deferrals_in : List Deferral3Row → List DeferralRow
-deferrals_in rows = map (λ (row : Deferral3Row). row.deferral) rows
 
 -- these deferrals are in the new table, those up to the mark of the point are gone from the old one, and the point is this one
 abbrev pub deferrals_moved : List Deferral3Row → Point → TableName → List Row → List Row

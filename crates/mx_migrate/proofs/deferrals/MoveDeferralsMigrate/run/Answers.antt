@@ -6,7 +6,8 @@ use Rattle.mx_base.specs.declared.rows.rows.DeferralRow.{DeferralRow}
 use Rattle.mx_base.specs.declared.point.Point.{Point}
 use Rattle.mx_registers.specs.points.Moves.{last_moved}
 use Rattle.mx_registers.specs.points.Points.{moving_from}
-use Rattle.mx_moves.specs.steps.Deferrals.{deferrals_in, is_deferral_next}
+use Rattle.mx_book_tables.specs.reading.Deferrals.{deferrals_in}
+use Rattle.mx_moves.specs.steps.Deferrals.{is_deferral_next}
 use Rattle.mx_migrate.proofs.RunLemmas.{deferrals_move, deferrals_off, deferrals_stop, stopped_by}
 use Rattle.mx_migrate.proofs.deferrals.MoveDeferralsMigrate.run.Goals as goal
 
