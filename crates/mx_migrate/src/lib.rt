@@ -9,6 +9,9 @@
 //! `CreateBases`, then `WriteBases` for each of them; and `Finish`. Those that write what layout 2 keeps hold the rows,
 //! which the caller makes of the book.
 //!
+//! From layout 2 to layout 3: `CreateDeferrals`, then `MoveDeferrals` until none is left; `ChangeToAccomplishments`, then
+//! `WriteAccomplishments` for each aircraft and component; and `FinishLater`. Those that move or write rows hold them too.
+//!
 //! - `settle`: which step is due at the point of a file, one commit on the way, and as many as are wanted.
 //!
 //! # What is promised
@@ -51,10 +54,15 @@
 //!   old table damaged: `MoveDeferrals`: `Migrate` (`gone` of `MovesDeferrals`, `IsDeferralOff`).
 //! - So does the one that drops the old table of deferrals, only where it has no row, and makes that of accomplishments:
 //!   `ChangeToAccomplishments`: `Migrate`.
+//! - So does the one that writes the accomplishments which it holds, in any order, and deletes the last bases of their item:
+//!   the one table has them with those from before, the other loses these rows and no others, and nothing else changes but
+//!   the point. It is due where these are the accomplishments of the next item of the book: `WriteAccomplishments`:
+//!   `Migrate` (`WritesAccomplishments`). That their days are in the calendar is tested where they are made: `dated`.
 //! - So does the one that drops the table of last bases, only where it has no row, makes the last indexes and settles the
 //!   file at layout 3: `FinishLater`: `Migrate`.
 #![tactic(auto)]
 
+pub mod accomplishments;
 pub mod components;
 pub mod deferrals;
 pub mod kept;
@@ -65,6 +73,7 @@ pub mod settle;
 pub mod step;
 pub mod tables;
 
+pub use accomplishments::WriteAccomplishments;
 pub use components::MoveComponent;
 pub use deferrals::MoveDeferrals;
 pub use kept::{WriteBases, WriteTotal};

@@ -80,13 +80,13 @@ pub fn delete_deferrals<S: Alter>(tx: &mut Transaction<'_, S>, seq: u32) -> Resu
 /// `Memory` for want of memory, and `Store` for an error of the store.
 pub fn insert_accomplishments<S: Alter>(
     tx: &mut Transaction<'_, S>,
-    rows: &Vec<DatedRow>,
+    accomplishments: &Vec<DatedRow>,
 ) -> Result<(), TableFault>
     ensures same_reference { tx.new.conn.ghost_name ≡ tx.old.conn.ghost_name }
-    ensures writes { WritesRows kept_done3.IsIn (on_top kept_done3 rows.now.items)
+    ensures writes { WritesRows kept_done3.IsIn (on_top kept_done3 accomplishments.now.items)
         (state S.Store tx.old.conn.now) (state S.Store tx.new.conn.now) result }
 {
-    rows.write(tx)
+    accomplishments.write(tx)
 }
 
 // Deletes the last bases of an item.
