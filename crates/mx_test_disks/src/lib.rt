@@ -5,7 +5,7 @@
 //! - `install`: makes a file of layout 1 with the book of those commands of the list that are new;
 //! - `point`: the layout, step and mark that it is at;
 //! - `ask QUERY`, `tables`, `sql STATEMENT`: the rows of a query; all rows of all tables; a statement that changes the files;
-//! - `step` before a line of `mx_test_lines::moves`, whose head lists them: a step of the move to layout 2;
+//! - `step` before a line of `mx_test_lines::moves`, whose heads list them: a step of the move to layout 2, or of that to layout 3;
 //! - `open`: opens the office, where a file of layout 1 is moved to the newest layout first.
 //!
 //! Lines over a database of layout 2: `enter COMMAND` hands a command in, which is judged by the rows of the tables and whose rows are

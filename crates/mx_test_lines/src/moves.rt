@@ -11,11 +11,14 @@
 //! - `bases-table MARK`: makes the table of last bases, where totals were written up to the mark;
 //! - `bases MARK ITEM`, and behind it `TASK MINUTES CYCLES DAY` for each base: writes the last bases of an item, the next behind the
 //!   mark;
-//! - `finish MARK`: makes the last indexes, where last bases were written up to the mark.
+//! - `finish MARK`: makes the last indexes, where last bases were written up to the mark;
+//! - one of those to layout 3, which `later` lists.
 ghost use Rattle.std.specs.Prelude.{◌≡◌, false};
 
 pub mod installing;
+mod later;
 
+use crate::moves::later::answer_of_later_step;
 pub use installing::answer_of_install;
 use mx_base::rows::{BaseRow, TotalRow};
 use mx_base::{Day, Moment, Point, TaskId};
@@ -55,8 +58,8 @@ fn step_text(alloc: Global, made: Result<Point, MoveFault>) -> Result<String, Al
     Ok(text)
 }
 
-// Makes a step: the point that it leads to, or why it was not made.
-fn made<S: Alter, M: Migrate>(
+/// Makes a step: the point that it leads to, or why it was not made.
+pub(crate) fn made<S: Alter, M: Migrate>(
     alloc: Global,
     conn: &mut Connection<S>,
     step: &M,
@@ -137,7 +140,7 @@ fn write_bases<S: Alter>(
     Ok(made(alloc, conn, &WriteBases { mark, item, rows })?)
 }
 
-// What a step of totals or last bases answers, or the one that ends the move.
+// What a step of totals or last bases answers, the one that ends the move, or one of the move to layout 3.
 fn answer_of_kept<S: Alter>(alloc: Global, conn: &mut Connection<S>, words: &[&str]) -> AnswerText
     requires { conn.old.in_transaction ≡ false }
 {
@@ -156,7 +159,7 @@ fn answer_of_kept<S: Alter>(alloc: Global, conn: &mut Connection<S>, words: &[&s
             let mark = mark.parse::<u32>()?;
             Ok(made(alloc, conn, &Finish { mark })?)
         }
-        _ => Err(Unmade::NoSuchLine),
+        later => answer_of_later_step(alloc, conn, later),
     }
 }
 
@@ -184,7 +187,7 @@ fn settled<S: Alter>(alloc: Global, conn: &mut Connection<S>, at_most: &str) -> 
 }
 
 /// What a step answers: `advance`, `settle AT_MOST`, `sectors-table`, `sectors MARK`, `spans-table MARK`,
-/// `component MARK COMPONENT`, or one of totals, last bases or the end.
+/// `component MARK COMPONENT`, one of totals, last bases or the end, or one to layout 3.
 pub fn answer_of_step<S: Alter>(
     alloc: Global,
     conn: &mut Connection<S>,
