@@ -1,4 +1,4 @@
--- What layout 2 keeps of the items of a book, and of which tasks it keeps the last bases.
+-- What layouts 2 and 3 keep of the items and the deferrals of a book, and of which tasks the last bases are kept.
 use Rattle.std.specs.Prelude.{◌≡◌, ℕ, Bool, true, ◌&&◌, nat_eq, List, Option, IsPermutation, is_some}
 use Rattle.std.specs.List.{list_all, list_any}
 use Rattle.std.specs.Option.{option_and_then, option_map}
@@ -10,15 +10,19 @@ use Rattle.mx_base.specs.declared.rows.rows.ReleaseLineRow.{ReleaseLineRow}
 use Rattle.mx_registers.specs.Names.{item_at}
 use Rattle.mx_registers.specs.kept.Bases.{AreKeyedOnce, base_row, base_rows}
 use Rattle.mx_registers.specs.kept.Totals.{total_rows}
+use Rattle.mx_registers.specs.late.Done.{done_rows}
+use Rattle.mx_registers.specs.late.Found.{found_rows}
 use Rattle.mx_registers.specs.file.Bases.{has_key, is_last_base}
 use Rattle.mx_verify.specs.declared.derived.kept.KeptRows.{KeptRows}
 
 -- ── what is kept of a book ──
 
--- the rows are what is kept of this book: the totals of its items in the order of their numbers, and its last bases in any order
+-- the rows are what is kept of this book: the totals of its items and its deferrals with their cycles, each in the order of their numbers, and its last bases and its accomplishments, in any order
 pub record AreKeptOf (kept : KeptRows) (book : List Entry) : Type 0 where
   pub totals : kept.totals.items ≡ total_rows book
   pub bases : IsPermutation kept.bases.items (base_rows book)
+  pub found : kept.found.items ≡ found_rows book
+  pub done : IsPermutation kept.done.items (done_rows book)
 
 -- ── of which tasks the last bases are kept ──
 

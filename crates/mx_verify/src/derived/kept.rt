@@ -1,4 +1,4 @@
-//! What layout 2 keeps of the items of a book, made of the registers of a file.
+//! What layouts 2 and 3 keep of the items and the deferrals of a book, made of the registers of a file.
 ghost use Rattle.std.specs.Prelude.{◌≡◌, List, [], Err, IfOk, MatchResult, Ok};
 ghost use Rattle.mx_book.specs.commands.Act.{Entry};
 ghost use Rattle.mx_book.specs.Book.{IsBook};
@@ -11,19 +11,23 @@ ghost use Rattle.mx_registers.specs.file.Tables.{AreFilePut};
 
 use crate::derived::last_bases::last_bases;
 use crate::merged::{KeptBook, Merged, NoBook, merge_beside_maps, total_rows};
-use mx_base::rows::{BaseRow, EntryKind, TotalRow};
+use mx_base::rows::{BaseRow, Deferral3Row, DoneRow, EntryKind, TotalRow};
 use mx_book::entry_list::NoMemory;
 use mx_registers::file::{FileRows, put_in_order};
 use mx_registers::merge::Registers;
 use std::alloc::Global;
 
-/// What layout 2 keeps of the items of a book beside its registers.
+/// What layouts 2 and 3 keep of the items and the deferrals of a book beside its registers.
 #[derive(Drop)]
 pub struct KeptRows {
     /// The totals of its items, in the order of the entries that added them.
     pub totals: Vec<TotalRow>,
-    /// Their last bases, in any order.
+    /// Their last bases, in any order: of layout 2.
     pub bases: Vec<BaseRow>,
+    /// Its deferrals with the cycles at which they were found, in the order of their entries: of layout 3.
+    pub found: Vec<Deferral3Row>,
+    /// The accomplishments of its items, in any order: of layout 3.
+    pub done: Vec<DoneRow>,
 }
 
 /// Why there are no kept rows.
@@ -50,7 +54,13 @@ fn kept_of(alloc: Global, merged: Merged, registers: &Registers) -> Result<KeptR
         registers.rows.openings.as_slice(),
         registers.rows.release_lines.as_slice(),
     )?;
-    Ok(KeptRows { totals, bases })
+    let found = book.found(alloc, registers.rows.deferrals.as_slice())?;
+    Ok(KeptRows {
+        totals,
+        bases,
+        found,
+        done: book.into_done(),
+    })
 }
 
 // What is kept of the book that registers give, where the rows of each are in the order of their keys.
@@ -82,7 +92,7 @@ fn kept_in_order(alloc: Global, registers: &Registers) -> Result<KeptRows, Unkep
     }
 }
 
-/// What layout 2 keeps of the book whose registers these are, the rows of each in any order; which fittings and removals
+/// What layouts 2 and 3 keep of the book whose registers these are, the rows of each in any order; which fittings and removals
 /// they have is not looked at, since the spans stand for these, nor which totals and bases. `Damaged` where the row of an
 /// entry can't stand behind the entries before it, `Differs` where rows are missing or too many. Of registers that give a
 /// book whose spans are others, the rows are those of that book.

@@ -1,34 +1,37 @@
 //! The book that registers are those of, with what its kept rows are made of: its maps, the sectors and spans of its registers by
-//! moments, and the last base of each task.
-ghost use Rattle.std.specs.Prelude.{◌≡◌, IfOk, IfSome, Some};
+//! moments, its accomplishments, and the last base of each task.
+ghost use Rattle.std.specs.Prelude.{◌≡◌, IfOk, IfSome, IsPermutation, Some};
 ghost use Rattle.mx_book.specs.due.Due.{IsBase};
 ghost use Rattle.mx_book.specs.Base.{base};
 ghost use Rattle.mx_book.specs.Life.{clock, life_now, use_or_none};
 ghost use Rattle.mx_registers.specs.Names.{item_at};
-ghost use Rattle.mx_registers.specs.Registers.{AreRegistersOf, sector_rows};
+ghost use Rattle.mx_registers.specs.Registers.{AreRegistersOf, deferral_rows, sector_rows};
 ghost use Rattle.mx_registers.specs.kept.Spans.{span_rows};
+ghost use Rattle.mx_registers.specs.late.Done.{done_rows};
+ghost use Rattle.mx_registers.specs.late.Found.{found_rows};
 ghost use Rattle.mx_indexed_book.specs.moments.Flown.{ArePermuted};
 
 use crate::merged::merged::Merged;
+use mx_base::rows::{Deferral3Row, DeferralRow, DoneRow};
 use mx_base::{Base, Moment, TaskId, Use};
 use mx_book::commands::Item;
 use mx_book::entry_list::{Book, NoMemory};
 use mx_indexed_book::IndexedBook;
-use mx_indexed_book::moments::done::done_rows;
+use mx_indexed_book::moments::done::{Done, done_rows};
 use mx_indexed_book::moments::flown::Moments;
+use mx_indexed_book::moments::found::found_rows;
 use mx_indexed_book::moments::lives;
 use mx_registers::file::spans::spans_made;
 use mx_registers::merge::Registers;
 use std::alloc::Global;
-use std::collections::BTreeMap;
 use std::marker::Model;
 
-/// A book with its lives by moments and its last bases. Contracts see the list of its entries.
+/// A book with its lives by moments, its accomplishments and its last bases. Contracts see the list of its entries.
 #[derive(Drop)]
 pub struct KeptBook {
     book: IndexedBook,
     moments: Moments,
-    bases: BTreeMap<(u32, TaskId), Base>,
+    done: Done,
 }
 
 impl Model for KeptBook {
@@ -40,7 +43,7 @@ impl Model for KeptBook {
 
     ghost view = { λ a. a.book };
 
-    ghost invariant = { λ a. IsKept a.book a.moments a.bases };
+    ghost invariant = { λ a. IsKept a.book a.moments a.done.rows.items a.done.bases };
 }
 
 // The sectors and spans of registers by moments.
@@ -65,7 +68,7 @@ impl KeptBook {
         Ok(KeptBook {
             book: merged.into_book(),
             moments,
-            bases: done.bases,
+            done,
         })
     }
 
@@ -97,6 +100,31 @@ impl KeptBook {
         ensures base { result ≡ base self.now item.now task.now }
         ensures bounded { IfSome result IsBase }
     {
-        self.bases.get(&(number, *task)).copied()
+        self.done.bases.get(&(number, *task)).copied()
+    }
+
+    /// Its deferrals, which are these, with the cycles at which they were found. `NoMemory` where memory runs out.
+    pub fn found(
+        &self,
+        alloc: Global,
+        deferrals: &[DeferralRow],
+    ) -> Result<Vec<Deferral3Row>, NoMemory>
+        requires { deferrals.now ≡ deferral_rows self.now }
+        ensures { IfOk result (λ rows. rows.items ≡ found_rows self.now) }
+    {
+        found_rows(alloc, &self.book, &self.moments, deferrals)
+    }
+
+    /// Its accomplishments as rows.
+    pub fn into_done(self) -> Vec<DoneRow>
+        ensures { IsPermutation result.items (done_rows self) }
+    {
+        let KeptBook {
+            book: _,
+            moments: _,
+            done,
+        } = self;
+        let Done { rows, bases: _ } = done;
+        rows
     }
 }
