@@ -15,6 +15,7 @@
 //! - one of those to layout 3, which `later` lists.
 ghost use Rattle.std.specs.Prelude.{◌≡◌, false};
 
+mod given;
 pub mod installing;
 mod later;
 

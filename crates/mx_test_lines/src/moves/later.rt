@@ -7,9 +7,11 @@
 //! - `accomplishments MARK ITEM`, and behind it `TASK SEQ LINE VALUE DUE BASE` for each accomplishment: writes those of an item, the
 //!   next behind the mark, once their days were tested, and deletes its last bases. Each of the last three is `MINUTES CYCLES DAY`, of
 //!   DUE with `-` where the task was not due;
-//! - `finish-later MARK`: drops the table of last bases and makes the last indexes, where accomplishments were written up to the mark.
+//! - `finish-later MARK`: drops the table of last bases and makes the last indexes, where accomplishments were written up to the mark;
+//! - one that is handed in what the registers give, which `given` lists.
 ghost use Rattle.std.specs.Prelude.{◌≡◌, false};
 
+use crate::moves::given::answer_of_given_step;
 use crate::moves::made;
 use mx_base::rows::{Deferral3Row, DeferralRow, DoneRow};
 use mx_base::{Base, Limit, TaskId};
@@ -169,7 +171,7 @@ fn write_accomplishments<S: Alter>(
 }
 
 /// What a step to layout 3 answers: `deferrals-table`, `deferrals MARK`, `accomplishments-table MARK`,
-/// `accomplishments MARK ITEM` or `finish-later MARK`.
+/// `accomplishments MARK ITEM`, `finish-later MARK`, or one that the registers give.
 pub(crate) fn answer_of_later_step<S: Alter>(
     alloc: Global,
     conn: &mut Connection<S>,
@@ -191,6 +193,6 @@ pub(crate) fn answer_of_later_step<S: Alter>(
             let mark = mark.parse::<u32>()?;
             Ok(made(alloc, conn, &FinishLater { mark })?)
         }
-        _ => Err(Unmade::NoSuchLine),
+        given => answer_of_given_step(alloc, conn, given),
     }
 }
